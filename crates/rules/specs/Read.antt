@@ -1,0 +1,21 @@
+-- 01, "From field to value". Assumes nothing.
+use mathlib.Core.Path.{_≡_}
+use mathlib.Core.Bool.{true, false}
+use mathlib.Core.List.{List}
+use mathlib.Core.Option.{Option, none, some}
+use Prim.Native.Nat.{ℕ}
+use lib.IntN.{ℤ}
+use Rattle.rules.specs.Form.{Form}
+use Rattle.rules.specs.Shape.{places}
+use Rattle.rules.specs.Edit.{inRange, tooBig, edited}
+
+-- M at scale q edits to the field f, with neither VALUE nor SIZE
+pub record Edits (φ : Form) (m : ℤ) (q : ℕ) (f : List ℕ) : Type 0 where
+  pub value : inRange m q ≡ true
+  pub size : tooBig φ m q ≡ false
+  pub field : edited φ m q ≡ f
+
+-- "It is accepted exactly when some M at scale f edits to it; that M is the answer. Else CONVERSION."
+abbrev pub ReadsAs : Form → List ℕ → Option ℤ → Type 0
+ReadsAs φ f (some m) = Edits φ m (places φ) f
+ReadsAs φ f none = (m : ℤ) → Edits φ m (places φ) f → ⊥

@@ -1,0 +1,39 @@
+// What document 01 says, as definitions (specs/), with the laws that every other crate cites (proofs/). The types that the
+// definitions speak of stand here, so that every crate shares them; the crate has no function.
+
+// What a call hands back. A refusal has its number, the field it lies in where 01 gives one, length 0 and value 0; number 0 is
+// success, with the length that 01 gives for the call and, where a single field is read, its value.
+pub struct Answer {
+    pub number: u8,
+    pub field: u8,
+    pub length: usize,
+    pub value: i64,
+}
+
+// The symbols of a picture with their count, in a fixed room of 64. Unused places are 0; a refused picture has count 0 and
+// every place 0.
+pub struct Picture {
+    pub symbols: [u8; 64],
+    pub count: usize,
+}
+
+// What has been read of a factor, in going through a picture text.
+pub enum Mode {
+    // nothing: a symbol, a factor or a mark may come
+    Plain,
+    // its parenthesis
+    Opened,
+    // one digit, or two, and what they are worth
+    OneDigit(usize),
+    TwoDigits(usize),
+    // all of it: the symbol to repeat must come
+    Closed(usize),
+    // a byte or a factor that isn't allowed
+    Spoilt,
+}
+
+// What a field says: the one value that edits to it, or that there is none.
+pub enum Reading {
+    Value(i64),
+    Conversion,
+}
