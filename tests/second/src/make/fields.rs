@@ -1,0 +1,103 @@
+//! Fields and records for cases: what editing gives, and what comes close to it.
+
+use super::random::Random;
+use super::values;
+use crate::rules_of_shape::Picture;
+use crate::value_to_field::field_of;
+
+const CHARACTERS: &[u8] = b"0123456789 *+-$,./CRDB";
+
+/// A field for a picture: of a value, damaged in some way, or of a wrong length.
+pub fn for_picture(random: &mut Random, picture: &Picture) -> Vec<u8> {
+    let field = edited(random, picture);
+    match random.below(20) {
+        0..=8 => field,
+        9..=17 => damaged(random, field),
+        18 => (0..field.len()).map(|_| random.pick(CHARACTERS)).collect(),
+        _ => other_length(random, field),
+    }
+}
+
+/// A record for pictures: all fields edited, at times one of them damaged or the length wrong.
+pub fn record(random: &mut Random, pictures: &[Picture]) -> Vec<u8> {
+    let mut fields: Vec<Vec<u8>> = pictures.iter().map(|picture| edited(random, picture)).collect();
+    if random.percent(35) {
+        for _ in 0..random.between(1, 2) {
+            let k = random.below(fields.len());
+            fields[k] = damaged(random, fields[k].clone());
+        }
+    }
+    let record = fields.concat();
+    if random.percent(8) {
+        other_length(random, record)
+    } else {
+        record
+    }
+}
+
+/// The field of a value that fits.
+pub fn edited(random: &mut Random, picture: &Picture) -> Vec<u8> {
+    let m = values::fitting(random, picture);
+    field_of(picture, m, picture.f() as u64).expect("the value fits")
+}
+
+/// The field changed without a change of its length; at times it is a field again.
+pub fn damaged(random: &mut Random, mut field: Vec<u8>) -> Vec<u8> {
+    let at = random.below(field.len());
+    match random.below(10) {
+        0 | 1 => field[at] = random.pick(CHARACTERS),
+        2 => field[at] = random.byte(),
+        3 => zero_for_fill(random, &mut field),
+        4 => exchange(&mut field, b'+', b'-'),
+        5 => exchange(&mut field, random.pick(b"+-"), b' '),
+        6 => exchange_marks(&mut field),
+        7 => exchange(&mut field, b' ', b'*'),
+        8 => field.iter_mut().filter(|byte| byte.is_ascii_digit()).for_each(|byte| *byte = b'0'),
+        _ => {
+            let other = (at + 1) % field.len();
+            field.swap(at, other);
+        }
+    }
+    field
+}
+
+/// A digit 0 in place of one of the blanks or asterisks.
+fn zero_for_fill(random: &mut Random, field: &mut [u8]) {
+    let fills: Vec<usize> = (0..field.len()).filter(|&at| b" *".contains(&field[at])).collect();
+    if !fills.is_empty() {
+        field[random.pick(&fills)] = b'0';
+    }
+}
+
+fn exchange(field: &mut [u8], one: u8, other: u8) {
+    for byte in field {
+        if *byte == one {
+            *byte = other;
+        } else if *byte == other {
+            *byte = one;
+        }
+    }
+}
+
+/// Two blanks, CR and DB at the end, each put in place of the one before.
+fn exchange_marks(field: &mut [u8]) {
+    let Some(at) = field.len().checked_sub(2) else {
+        return;
+    };
+    let mark: &[u8] = match &field[at..] {
+        b"  " => b"CR",
+        b"CR" => b"DB",
+        b"DB" => b"  ",
+        _ => return,
+    };
+    field[at..].copy_from_slice(mark);
+}
+
+fn other_length(random: &mut Random, mut field: Vec<u8>) -> Vec<u8> {
+    match random.below(5) {
+        0 => field.clear(),
+        1 | 2 => field.truncate(field.len() - 1),
+        _ => field.push(random.pick(CHARACTERS)),
+    }
+    field
+}

@@ -1,0 +1,204 @@
+//! Picture texts for cases: accepted ones of every kind, near misses, and texts at the edges of the rules.
+
+use super::random::Random;
+use crate::check;
+
+const SYMBOLS: &[u8] = b"9Z*V,./BS+-$";
+const ALPHABET: &[u8] = b"9Z*V,./BS+-$CRD()0123456789";
+const INSERTIONS: &[u8] = b",./B";
+
+/// Texts at the edges of the rules, with a bar between them.
+const EDGES: &str = "\
+    9(1)DB|9(2)CR|9DBB|9CRV|CR9|9(2)B|9BDB|9D(1)B|9(01)B|9CVR|9DVB|DB9|(01)9|(09)9|(0)9|(00)9|(003)9|\
+    (64)9|(65)9|()9|( 2)9|(+2)9|(1)(2)9|9(2)|(2)|(1)V9|(1)CR|(1)R|(1)DB|9(2|9)9|(2)9)|((2)9|(64)9(64)9Q|\
+    (64)9(64)9|(64)9V|(63)B9|(63)B9V|(62)B9V|(61)B9CR|(62)B9CR|(61)B9VDB|(60)B9VDB|VV|V9V|S+|SCR|+DB|S$|\
+    $,S|V|B|CR|DB|VCR|V$9|VS9|9V-|9-V|9V$|9VCR|$V$|V$$|VSS|S$S|$S$|$$S9|S$$9|$$9S|$$S|-$$|SS$9|$SS9|\
+    SS9$|(16)$|(17)$|(15)Z|(16)Z|(15)9|(16)9|9Z|Z*|*Z|ZSS|$$Z|ZZ9VZ|ZVZ|Z9V9|9VZ|ZV9|*V*|**V9|9$9|$9$|\
+    9S9|S9S|S9CR|-9DB|+9-|S9-|$$9CR|SS9CR|$$SS|++--|,ZZ|ZZ,|V.ZZ|VZZ|V,.Z|ZZZ.VZZ|$$,9|+ZZ|+++|ZV.9|\
+    **B**|*CR|$*DB|ZDB|z9|9 9|9;9|T9|9Y9|9E9|99K|9\n|9\0";
+
+/// A text, accepted in so many of a hundred.
+pub fn text(random: &mut Random, accepted_percent: usize) -> Vec<u8> {
+    if random.percent(accepted_percent) {
+        return accepted(random);
+    }
+    match random.below(10) {
+        0..=4 => {
+            let text = accepted(random);
+            near_miss(random, text)
+        }
+        5..=7 => at_the_edges(random),
+        8 => of_length(random),
+        _ => noise(random),
+    }
+}
+
+/// An accepted text.
+pub fn accepted(random: &mut Random) -> Vec<u8> {
+    loop {
+        let text = if random.percent(3) { long_text(random, 128) } else { built(random) };
+        if check(&text).number == 0 {
+            return text;
+        }
+    }
+}
+
+fn built(random: &mut Random) -> Vec<u8> {
+    let lead = random.pick(b"9ZZ**S+-$$");
+    let drifts = b"S+-$".contains(&lead);
+    let mut signs = if b"S+-".contains(&lead) { Vec::new() } else { vec![random.pick(b"    S+-CD")] };
+    signs.push(if lead != b'$' && random.percent(30) { b'$' } else { b' ' });
+    let mark: &[u8] = match signs[0] {
+        b'C' => b"CR",
+        b'D' => b"DB",
+        _ => b"",
+    };
+    signs.retain(|sign| b"S+-$".contains(sign));
+    random.shuffle(&mut signs);
+    let (mut front, back): (Vec<u8>, Vec<u8>) = signs.into_iter().partition(|_| random.percent(60));
+    let start = front.len();
+    front.extend(digits(random, lead, drifts));
+    let end = front.len();
+    front.extend(back);
+    stray_v(random, &mut front, start, end, drifts);
+    sprinkle(random, &mut front, 64 - mark.len());
+    let mut text = factored(random, &front);
+    text.extend(mark);
+    text
+}
+
+/// The digits with the first drifting symbol before them and, most times, a V among them.
+fn digits(random: &mut Random, lead: u8, drifts: bool) -> Vec<u8> {
+    let count = match random.below(10) {
+        0..=4 => random.between(1, 4),
+        5..=8 => random.between(1, 15),
+        _ => 15,
+    };
+    let v = random.percent(60).then(|| random.between(0, count));
+    let mut suppressible = if lead == b'9' { 0 } else { random.between(1, count) };
+    if v.is_some_and(|v| v < suppressible) {
+        suppressible = count;
+    }
+    let first = usize::from(drifts);
+    let mut symbols = vec![lead; first + suppressible];
+    symbols.resize(first + count, b'9');
+    if let Some(v) = v {
+        symbols.insert(first + v, b'V');
+    }
+    symbols
+}
+
+/// Lets a V that stands first or last among the digits stray among the static symbols beside them.
+fn stray_v(random: &mut Random, symbols: &mut [u8], start: usize, end: usize, drifts: bool) {
+    if !drifts && symbols[start] == b'V' {
+        let to = random.between(0, start);
+        symbols[to..=start].rotate_right(1);
+    } else if symbols[end - 1] == b'V' {
+        let to = random.between(end - 1, symbols.len() - 1);
+        symbols[end - 1..=to].rotate_left(1);
+    }
+}
+
+/// Puts insertions anywhere: none, a few, or as many as the room takes.
+fn sprinkle(random: &mut Random, symbols: &mut Vec<u8>, room: usize) {
+    let free = room.saturating_sub(symbols.len());
+    let count = match random.below(20) {
+        0..=7 => 0,
+        8..=14 => random.between(0, 4),
+        15..=17 => random.between(0, 16),
+        18 => random.between(0, free),
+        _ => free,
+    };
+    let one_kind = random.percent(30).then(|| random.pick(INSERTIONS));
+    for _ in 0..count.min(free) {
+        let at = random.between(0, symbols.len());
+        symbols.insert(at, one_kind.unwrap_or_else(|| random.pick(INSERTIONS)));
+    }
+}
+
+/// The text of symbols, runs of them written with factors at random where the text stays within its bytes.
+fn factored(random: &mut Random, symbols: &[u8]) -> Vec<u8> {
+    let eager = random.pick(&[0, 10, 50, 90]);
+    let mut text = Vec::new();
+    let mut rest = symbols;
+    while let Some(&symbol) = rest.first() {
+        let run = rest.iter().take_while(|&&s| s == symbol).count();
+        let taken = if random.percent(70) { run } else { random.between(1, run) };
+        let wanted = random.percent(if taken > 1 { eager } else { eager / 10 });
+        if symbol == b'V' || !wanted {
+            text.extend(std::iter::repeat_n(symbol, taken));
+        } else if random.percent(30) {
+            text.extend(format!("({taken:02})").bytes().chain([symbol]));
+        } else {
+            text.extend(format!("({taken})").bytes().chain([symbol]));
+        }
+        rest = &rest[taken..];
+    }
+    if text.len() > 126 {
+        symbols.to_vec()
+    } else {
+        text
+    }
+}
+
+/// The text with one or two bytes changed, put in, dropped or exchanged.
+pub fn near_miss(random: &mut Random, mut text: Vec<u8>) -> Vec<u8> {
+    for _ in 0..random.pick(&[1, 1, 1, 2]) {
+        let at = random.below(text.len());
+        let byte = match random.below(20) {
+            0 => random.byte(),
+            1..=5 => random.pick(ALPHABET),
+            _ => random.pick(SYMBOLS),
+        };
+        match random.below(6) {
+            _ if text.is_empty() => text.push(byte),
+            0 | 1 => text[at] = byte,
+            2 | 3 => text.insert(at, byte),
+            4 => {
+                text.remove(at);
+            }
+            _ => {
+                let other = random.below(text.len());
+                text.swap(at, other);
+            }
+        }
+    }
+    text
+}
+
+fn at_the_edges(random: &mut Random) -> Vec<u8> {
+    let texts: Vec<&str> = EDGES.split('|').collect();
+    random.pick(&texts).into()
+}
+
+/// A text of a length at an edge.
+fn of_length(random: &mut Random) -> Vec<u8> {
+    let length = random.pick(&[0, 127, 128, 129, 130]);
+    match random.below(3) {
+        0 => long_text(random, length),
+        1 => (0..length).map(|_| random.pick(ALPHABET)).collect(),
+        _ => vec![random.pick(b"9ZB"); length],
+    }
+}
+
+/// A text of at most `limit` bytes and close to it, of few symbols but many factors of one.
+fn long_text(random: &mut Random, limit: usize) -> Vec<u8> {
+    let mut text = Vec::new();
+    while text.len() + 8 < limit {
+        text.extend(b"(01)");
+        text.push(random.pick(INSERTIONS));
+    }
+    while text.len() < limit {
+        text.push(b'9');
+    }
+    text
+}
+
+fn noise(random: &mut Random) -> Vec<u8> {
+    let length = random.below(12);
+    if random.percent(50) {
+        random.bytes(length)
+    } else {
+        (0..length).map(|_| random.pick(ALPHABET)).collect()
+    }
+}

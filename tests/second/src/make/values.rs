@@ -1,0 +1,130 @@
+//! Values for cases: most fit their picture, at and beside the places where a digit is gained or the cut bites.
+
+use super::random::Random;
+use crate::collector;
+use crate::rules_of_shape::Picture;
+
+const LIMIT: i64 = 1_000_000_000_000_000;
+const EDGE_SCALES: &[u64] = &[0, 1, 2, 7, 14, 15, 15, 16, 17, 255, 256, 65_536, u64::MAX];
+
+/// A value for a picture, fitting in most cases.
+pub fn for_picture(random: &mut Random, picture: &Picture) -> (i64, u64) {
+    let f = picture.f() as u64;
+    match random.below(20) {
+        0 | 1 => at_the_edges(random),
+        2 | 3 => cut_to_zero(random, f),
+        4 => (beyond(random, picture), f),
+        5 => (magnitude(random, picture.digits.len()), random.below(16) as u64),
+        6 => (-magnitude(random, picture.digits.len()), f),
+        7..=12 => (fitting(random, picture), f),
+        _ => {
+            let m = fitting(random, picture);
+            rescaled(random, m, f)
+        }
+    }
+}
+
+/// M that fits the picture at its own scale.
+pub fn fitting(random: &mut Random, picture: &Picture) -> i64 {
+    let m = magnitude(random, picture.digits.len());
+    if picture.signed() && random.percent(50) {
+        -m
+    } else {
+        m
+    }
+}
+
+/// A value of any picture, at the edges of the ranges.
+pub fn at_the_edges(random: &mut Random) -> (i64, u64) {
+    let power = power(random.below(16));
+    let m = random.pick(&[0, 1, power - 1, power, power + 1, LIMIT - 1, LIMIT, LIMIT + 1, i64::MAX]);
+    let m = match random.below(12) {
+        0 => i64::MIN,
+        1 => i64::MIN + 1,
+        2 => random.number() as i64,
+        3..=6 => -m,
+        _ => m,
+    };
+    let q = if random.percent(50) { random.below(16) as u64 } else { random.pick(EDGE_SCALES) };
+    (m, q)
+}
+
+/// A number below 10 to the `digits`.
+pub fn magnitude(random: &mut Random, digits: usize) -> i64 {
+    let k = random.below(digits);
+    let m = match random.below(12) {
+        0 => 0,
+        1 => 1,
+        2 => power(digits) - 1,
+        3 => power(k),
+        4 => power(k) - 1,
+        5 => power(k) + 1,
+        6 => power(k) * random.between(1, 9) as i64,
+        7..=9 => random.number() as i64 % power(k + 1),
+        _ => random.number() as i64 % power(digits),
+    };
+    m.abs() % power(digits)
+}
+
+/// A negative value, most times, whose magnitude the cut at scale f leaves zero.
+fn cut_to_zero(random: &mut Random, f: u64) -> (i64, u64) {
+    let q = (f + 1 + random.below(4) as u64).min(15);
+    let below = power(q.saturating_sub(f) as usize);
+    let m = random.pick(&[below - 1, below / 2, 1]);
+    (if random.percent(80) { -m } else { m }, q)
+}
+
+/// One more than fits, or somewhat more.
+fn beyond(random: &mut Random, picture: &Picture) -> i64 {
+    let least = power(picture.digits.len());
+    let m = random.pick(&[least, least + 1, least.saturating_mul(9)]);
+    if random.percent(50) {
+        -m
+    } else {
+        m
+    }
+}
+
+/// A value at another scale that is cut to M at scale f, or to less where the scale is smaller than f.
+fn rescaled(random: &mut Random, m: i64, f: u64) -> (i64, u64) {
+    let q = random.below(16) as u64;
+    if q < f {
+        return (m / power((f - q) as usize), q);
+    }
+    let factor = power((q - f) as usize);
+    let any = (random.number() as i64 % factor).abs();
+    let rest = random.pick(&[0, factor - 1, factor / 2, any]);
+    match m.checked_mul(factor) {
+        Some(grown) if grown.abs() <= LIMIT - factor => (if m < 0 { grown - rest } else { grown + rest }, q),
+        _ => (m, f),
+    }
+}
+
+/// A row of bytes for editing, one number a picture: all fitting in most cases, else one or two that don't or a wrong length.
+pub fn row(random: &mut Random, pictures: &[Picture]) -> Vec<u8> {
+    let mut numbers: Vec<i64> = pictures.iter().map(|picture| fitting(random, picture)).collect();
+    if random.percent(35) {
+        for _ in 0..random.between(1, 2) {
+            let k = random.below(numbers.len());
+            numbers[k] = match random.below(3) {
+                0 => beyond(random, &pictures[k]),
+                1 => random.pick(&[LIMIT, -LIMIT, i64::MIN, i64::MAX, LIMIT - 1, 1 - LIMIT]),
+                _ => numbers[k].wrapping_neg(),
+            };
+        }
+    }
+    let mut row = collector::bytes(&numbers);
+    match random.below(50) {
+        0 => row.truncate(row.len() - 1),
+        1 => row.push(0),
+        2 => row.truncate(row.len() - 8),
+        3 => row.extend([0; 8]),
+        4 => row.clear(),
+        _ => {}
+    }
+    row
+}
+
+fn power(exponent: usize) -> i64 {
+    10i64.pow(exponent as u32)
+}

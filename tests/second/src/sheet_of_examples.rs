@@ -1,0 +1,145 @@
+//! The sheet of examples, the plan example and the lister's listing as data in the words of the rules, and the case and answer
+//! lines made of them and of the manual's examples. The answers come from this data and not from the calls of this program.
+
+use crate::cases::{Case, Reply};
+use crate::collector;
+use crate::manual::{self, Example};
+use crate::numbers_that_come_back::pack;
+
+/// Picture, M, q and the field, `_` for a blank.
+pub const EDITED: &[(&str, i64, u64, &str)] = &[
+    ("ZZ9V.99", 1234, 2, "_12.34"),
+    ("ZZ9V.99", 0, 0, "__0.00"),
+    ("ZZZV.ZZ", 0, 0, "______"),
+    ("ZZZV.ZZ", 1, 2, "___.01"),
+    ("ZZZ.VZZ", 1, 2, "____01"),
+    ("$$,$$9", 123, 0, "__$123"),
+    ("$$,$$9", 1234, 0, "$1,234"),
+    ("$$,$$9", 0, 0, "____$0"),
+    ("***9CR", -5, 0, "***5CR"),
+    ("***9CR", 5, 0, "***5__"),
+    ("---9", -7, 0, "__-7"),
+    ("+++9", -7, 0, "___7"),
+    ("S999", -1, 1, "+000"),
+    ("(3)9V9", 12345, 2, "1234"),
+    ("99", 99, 0, "99"),
+    ("99", -9, 1, "00"),
+    ("**B**", 5, 0, "****5"),
+];
+
+/// Picture, M, q and the number of the refusal.
+pub const EDITING_REFUSED: &[(&str, i64, u64, u64)] = &[("99", 100, 0, 8), ("99", -1, 0, 8)];
+
+/// Picture, field and value.
+pub const READ: &[(&str, &str, i64)] = &[("ZZ9", "__7", 7), ("ZZZ", "___", 0)];
+
+/// Picture, field and the number of the refusal.
+pub const READING_REFUSED: &[(&str, &str, u64)] = &[("ZZ9", "___", 10), ("ZZ9", "007", 10)];
+
+/// Picture, number and length; an accepted picture's length is its n.
+pub const CHECKED: &[(&str, u64, u64)] =
+    &[("(64)9", 5, 0), ("(64)9V", 3, 0), ("(15)9", 0, 15), ("(16)9", 5, 0), ("9Z", 4, 0), ("CR", 5, 0), ("(0)9", 2, 0)];
+
+pub const LAYOUT: &[u8] = b"ZZ9V.99;-9;";
+pub const PLAN: &[u8] = &[2, 6, 3, 1, 2, 2, 0, 0, 8, 1, 1, 0, 8, 0, 0, 5, 0];
+
+/// The records of the listing with their values.
+pub const RECORDS: &[(&[u8], &[i64])] = &[(b" 12.34-7", &[1234, -7]), (b"  7.00 8", &[700, 8])];
+/// The record of the listing that is refused at its first field.
+pub const REFUSED_RECORD: &[u8] = b"   .00 8";
+
+pub const LISTER_INPUT: &[u8] = b"ZZ9V.99;-9;\n 12.34-7\n  7.00 8\n   .00 8\n";
+pub const LISTING: &[u8] = b"0,0,0,2,8\n1,0,0,1234,-7\n2,0,0,700,8\n3,10,1\n";
+
+/// The content of lent memory before a call.
+const GUARD: u8 = 0xa5;
+/// The lent bytes beyond those needed.
+const SPARE: usize = 3;
+
+/// A case and the answer that the rules or the manual give to it.
+pub type Stated = (Case, Reply);
+
+/// The sheet, the plan example, the records of the listing and the manual's examples.
+pub fn stated() -> Vec<Stated> {
+    let mut all = sheet();
+    all.extend(plan_example());
+    all.extend(manual::examples().into_iter().map(|(picture, example)| of_manual(picture, example)));
+    all
+}
+
+fn sheet() -> Vec<Stated> {
+    let mut all = Vec::new();
+    all.extend(EDITED.iter().map(|&(text, m, q, field)| edited(text, m, q, &blanks(field))));
+    all.extend(EDITING_REFUSED.iter().map(|&(text, m, q, number)| edit_refused(text, m, q, number)));
+    all.extend(READ.iter().map(|&(text, field, value)| read(text, &blanks(field), value)));
+    all.extend(READING_REFUSED.iter().map(|&(text, field, number)| read_refused(text, &blanks(field), number)));
+    all.extend(CHECKED.iter().map(|&(text, number, length)| checked(text, number, length)));
+    all
+}
+
+fn plan_example() -> Vec<Stated> {
+    let lent = vec![GUARD; PLAN.len() + SPARE];
+    let mut all = vec![stated_case(Case::Compile { layout: LAYOUT.to_vec(), plan: lent }, 17, PLAN)];
+    for &(record, values) in RECORDS {
+        let row = vec![GUARD; 8 * values.len() + SPARE];
+        let numbers = collector::bytes(values);
+        let reading = Case::PlanRead { plan: PLAN.to_vec(), record: record.to_vec(), row };
+        all.push(stated_case(reading, 2, &numbers));
+        let lent = vec![GUARD; record.len() + SPARE];
+        all.push(stated_case(Case::PlanEdit { plan: PLAN.to_vec(), row: numbers, record: lent }, 8, record));
+    }
+    let row = vec![GUARD; 16];
+    let refused = Case::PlanRead { plan: PLAN.to_vec(), record: REFUSED_RECORD.to_vec(), row };
+    all.push(refused_case(refused, 10, 1));
+    all
+}
+
+fn of_manual(picture: &str, example: Example) -> Stated {
+    match example {
+        Example::Accept { n, .. } => checked(picture, 0, n as u64),
+        Example::Edit { m, q, field: Some(field) } => edited(picture, m, q, &field),
+        Example::Edit { m, q, field: None } => edit_refused(picture, m, q, 8),
+        Example::Read { field, value: Some((m, _)) } => read(picture, &field, m),
+        Example::Read { field, value: None } => read_refused(picture, &field, 10),
+    }
+}
+
+fn checked(text: &str, number: u64, length: u64) -> Stated {
+    (Case::Check { text: text.into() }, Reply { packed: pack(number, 0, length), memory: Vec::new() })
+}
+
+fn edited(text: &str, m: i64, q: u64, field: &[u8]) -> Stated {
+    let out = vec![GUARD; field.len() + SPARE];
+    stated_case(Case::Edit { text: text.into(), m, q, out }, field.len(), field)
+}
+
+fn edit_refused(text: &str, m: i64, q: u64, number: u64) -> Stated {
+    refused_case(Case::Edit { text: text.into(), m, q, out: vec![GUARD; 64] }, number, 0)
+}
+
+fn read(text: &str, field: &[u8], value: i64) -> Stated {
+    let row = vec![GUARD; 8 + SPARE];
+    stated_case(Case::Read { text: text.into(), field: field.to_vec(), row }, 1, &value.to_le_bytes())
+}
+
+fn read_refused(text: &str, field: &[u8], number: u64) -> Stated {
+    refused_case(Case::Read { text: text.into(), field: field.to_vec(), row: vec![GUARD; 8] }, number, 0)
+}
+
+/// Success: the bytes written come first, the lent bytes behind them stay.
+fn stated_case(case: Case, length: usize, written: &[u8]) -> Stated {
+    let mut memory = case.lent().to_vec();
+    memory[..written.len()].copy_from_slice(written);
+    (case, Reply { packed: pack(0, 0, length as u64), memory })
+}
+
+/// A refusal: the lent bytes stay.
+fn refused_case(case: Case, number: u64, field: u64) -> Stated {
+    let memory = case.lent().to_vec();
+    (case, Reply { packed: pack(number, field, 0), memory })
+}
+
+/// A field with its blanks.
+pub fn blanks(field: &str) -> Vec<u8> {
+    field.replace('_', " ").into_bytes()
+}

@@ -1,0 +1,98 @@
+//! The cases that the program makes: repeatable, deep enough, and every refusal leaving the lent memory as it was.
+
+use second::cases::{hex, unhex, Case, Reply};
+use second::make::{case, random::Random, KINDS};
+
+fn answered(kind: &str, seed: u64, count: usize) -> Vec<(Case, Reply)> {
+    let mut random = Random::new(seed);
+    let made = (0..count).map(|_| case(kind, &mut random).expect("a known kind"));
+    made.map(|case| (case.clone(), case.answer())).collect()
+}
+
+/// The lent bytes that a successful call of this length writes.
+fn written(case: &Case, length: usize) -> usize {
+    match case {
+        Case::Check { .. } => 0,
+        Case::Read { .. } | Case::PlanRead { .. } => 8 * length,
+        _ => length,
+    }
+}
+
+#[test]
+fn lent_memory_changes_only_where_it_may() {
+    for (case, reply) in answered("all", 11, 20_000) {
+        let length = (reply.packed / 65_536) as usize;
+        let kept = if reply.number() == 0 { written(&case, length) } else { 0 };
+        assert_eq!(reply.memory[kept..], case.lent()[kept..], "{}", case.line());
+    }
+}
+
+#[test]
+fn refusals_name_a_field_only_in_layouts_and_plans() {
+    for (case, reply) in answered("all", 12, 20_000) {
+        let (number, field, length) = (reply.number(), reply.packed / 256 % 256, reply.packed / 65_536);
+        let single = matches!(case, Case::Check { .. } | Case::Edit { .. } | Case::Read { .. });
+        let named = !single && matches!(number, 1..=6 | 8 | 10);
+        assert_eq!(field > 0, named, "{}", case.line());
+        assert!(field <= 32 && (length > 0) == (number == 0), "{}", case.line());
+    }
+}
+
+#[test]
+fn most_cases_reach_the_last_test() {
+    let last: [(&str, &[u64]); 6] = [
+        ("check", &[0, 4, 5]),
+        ("edit", &[0, 7]),
+        ("read", &[0, 10]),
+        ("compile", &[0, 7]),
+        ("plan_read", &[0, 10]),
+        ("plan_edit", &[0, 7]),
+    ];
+    for (kind, numbers) in last {
+        let all = answered(kind, 13, 4_000);
+        let deep = all.iter().filter(|(_, reply)| numbers.contains(&reply.number())).count();
+        assert!(2 * deep > all.len(), "{kind}: {deep} of {}", all.len());
+    }
+}
+
+#[test]
+fn every_number_comes_back_in_every_call_that_has_it() {
+    let numbers: [(&str, &[u64]); 6] = [
+        ("check", &[0, 1, 2, 3, 4, 5]),
+        ("edit", &[0, 1, 2, 3, 4, 5, 6, 7, 8]),
+        ("read", &[0, 1, 2, 3, 4, 5, 7, 9, 10]),
+        ("compile", &[0, 1, 2, 3, 4, 5, 7, 11]),
+        ("plan_read", &[0, 7, 9, 10, 12]),
+        ("plan_edit", &[0, 6, 7, 8, 9, 12]),
+    ];
+    for (kind, expected) in numbers {
+        let mut seen: Vec<u64> = answered(kind, 14, 4_000).iter().map(|(_, reply)| reply.number()).collect();
+        seen.sort_unstable();
+        seen.dedup();
+        assert_eq!(seen, expected, "{kind}");
+    }
+}
+
+#[test]
+fn a_seed_names_its_cases() {
+    for kind in KINDS {
+        assert_eq!(answered(kind, 15, 50), answered(kind, 15, 50));
+        assert_ne!(answered(kind, 15, 50), answered(kind, 16, 50));
+    }
+    assert_eq!(case("other", &mut Random::new(1)), None);
+}
+
+#[test]
+fn lines_are_read_back() {
+    for (case, reply) in answered("all", 17, 5_000) {
+        assert_eq!(Case::parse(&case.line()), Some(case));
+        assert_eq!(Reply::parse(&reply.line()), Some(reply));
+    }
+    assert_eq!(Case::Edit { text: b"Z9".to_vec(), m: -5, q: 2, out: Vec::new() }.line(), "edit 5a39 -5 2 -");
+    for line in ["", "check", "check ", "check 5", "check 5A", "check 39 ", "edit 39 1 -1 -", "edit 39 1 1", "list 39"]
+    {
+        assert_eq!(Case::parse(line), None, "{line}");
+    }
+    assert_eq!((hex(&[]), hex(&[0, 255])), ("-".to_string(), "00ff".to_string()));
+    assert_eq!((unhex("-"), unhex("00ff"), unhex("")), (Some(vec![]), Some(vec![0, 255]), None));
+}

@@ -1,0 +1,63 @@
+//! The calls of the C collector: packed answers, rows as byte runs of any length, spare bytes left alone.
+
+use second::collector::{bytes, compile, numbers, plan_edit, plan_read, read};
+use second::sheet_of_examples::{LAYOUT, PLAN};
+
+const ROOM: u64 = 7;
+const LENGTH: u64 = 9;
+
+#[test]
+fn packed_answers() {
+    assert_eq!(compile(LAYOUT, &mut [0; 17]), 65_536 * 17);
+    assert_eq!(compile(b"9;9Z;", &mut [0; 17]), 4 + 256 * 2);
+    assert_eq!(plan_read(PLAN, b"   .00 8", &mut [0; 16]), 10 + 256);
+    assert_eq!(plan_edit(PLAN, &bytes(&[0, 10]), &mut [0; 8]), 8 + 256 * 2);
+}
+
+#[test]
+fn rows_are_little_endian_two_s_complement() {
+    assert_eq!(bytes(&[258, -1]), [2, 1, 0, 0, 0, 0, 0, 0, 255, 255, 255, 255, 255, 255, 255, 255]);
+    assert_eq!(numbers(&[254, 255, 255, 255, 255, 255, 255, 255, 9]), [-2]);
+}
+
+#[test]
+fn rows_for_reading() {
+    for length in 0..40 {
+        let mut row = vec![0xee; length];
+        let answer = plan_read(PLAN, b" 12.34-7", &mut row);
+        if length < 16 {
+            assert_eq!((answer, row), (ROOM, vec![0xee; length]));
+        } else {
+            assert_eq!(answer, 65_536 * 2);
+            assert_eq!(row[..16], bytes(&[1_234, -7]));
+            assert!(row[16..].iter().all(|&byte| byte == 0xee));
+        }
+    }
+}
+
+#[test]
+fn rows_for_editing() {
+    let row = [bytes(&[1_234, -7]), vec![0; 24]].concat();
+    for length in 0..row.len() {
+        let mut record = [b'#'; 10];
+        let answer = plan_edit(PLAN, &row[..length], &mut record);
+        if length == 16 {
+            assert_eq!((answer, &record), (65_536 * 8, b" 12.34-7##"));
+        } else {
+            assert_eq!((answer, record), (LENGTH, [b'#'; 10]));
+        }
+        assert_eq!(plan_edit(&PLAN[1..], &row[..length], &mut record), 12);
+    }
+}
+
+#[test]
+fn reading_a_single_field() {
+    let mut row = [0xee; 9];
+    assert_eq!(read(b"9Z", b"1", &mut []), 4);
+    assert_eq!(read(b"-9", b"1", &mut []), LENGTH);
+    assert_eq!(read(b"-9", b"xx", &mut row[..7]), ROOM);
+    assert_eq!(read(b"-9", b"-0", &mut row), 10);
+    assert_eq!(row, [0xee; 9]);
+    assert_eq!(read(b"-9", b"-2", &mut row), 65_536);
+    assert_eq!(row, [254, 255, 255, 255, 255, 255, 255, 255, 0xee]);
+}

@@ -1,0 +1,373 @@
+//! Points of the rules that are easily missed, one test a group, each with the result that the words of the rules give.
+
+use second::sheet_of_examples::blanks;
+use second::{check, compile, edit, is_plan, plan_edit, plan_read, read, Answer};
+
+fn all_are(number: u64, texts: &[&str]) {
+    for text in texts {
+        assert_eq!(check(text.as_bytes()).number, number, "{text}");
+    }
+}
+
+fn accepted(text: &str, n: u64) {
+    assert_eq!(check(text.as_bytes()), Answer::success(n as usize), "{text}");
+}
+
+fn edits(text: &str, m: i64, q: u64, field: &str) {
+    let mut out = vec![b'#'; field.len()];
+    assert_eq!(edit(text.as_bytes(), m, q, &mut out), Answer::success(field.len()), "{text} {m}@{q}");
+    assert_eq!(String::from_utf8(out).unwrap().replace(' ', "_"), field, "{text} {m}@{q}");
+}
+
+fn edit_is(number: u64, text: &str, m: i64, q: u64) {
+    let expected = Answer { number, field: 0, length: 0, value: 0 };
+    assert_eq!(edit(text.as_bytes(), m, q, &mut [0; 64]), expected, "{text} {m}@{q}");
+}
+
+fn reads(text: &str, field: &str, value: i64) {
+    assert_eq!(read(text.as_bytes(), &blanks(field)), Answer::value(value), "{text} {field}");
+}
+
+fn read_is(number: u64, text: &str, field: &str) {
+    assert_eq!(read(text.as_bytes(), &blanks(field)).number, number, "{text} {field}");
+}
+
+fn plan(layout: &str) -> Vec<u8> {
+    let mut plan = vec![0; 2_147];
+    let answer = compile(layout.as_bytes(), &mut plan);
+    assert_eq!(answer.number, 0, "{layout}");
+    plan.truncate(answer.length as usize);
+    plan
+}
+
+fn compile_is(number: u64, field: u64, layout: &[u8]) {
+    let expected = Answer { number, field, length: 0, value: 0 };
+    assert_eq!(compile(layout, &mut [0; 2_147]), expected, "{:?}", String::from_utf8_lossy(layout));
+}
+
+#[test]
+fn lengths_of_texts() {
+    all_are(1, &["", &"9".repeat(129), &"Q".repeat(129)]);
+    all_are(2, &[&"Q".repeat(128)]);
+    all_are(3, &[&"9".repeat(128), &"9".repeat(65), &"9".repeat(127)]);
+    accepted(&("(01)B".repeat(25) + "999"), 28);
+}
+
+#[test]
+fn marks_are_the_last_two_bytes() {
+    all_are(
+        2,
+        &["9(1)DB", "9(2)CR", "9DBB", "9CRV", "CR9", "9D(1)B", "9CVR", "9R", "9C", "9D", "9DBCR", "CRR", "(1)DB"],
+    );
+    accepted("9(2)B", 3);
+    accepted("9BDB", 4);
+    edits("9BDB", -1, 0, "1_DB");
+    edits("9(2)B", 1, 0, "1__");
+}
+
+#[test]
+fn factors() {
+    for worth in 1..=9 {
+        accepted(&format!("(0{worth})9"), worth);
+        accepted(&format!("({worth})9"), worth);
+    }
+    all_are(
+        2,
+        &[
+            "(0)9", "(00)9", "(003)9", "(65)9", "(99)9", "()9", "( 2)9", "(+2)9", "(1)(2)9", "9(2)", "(2)", "(", ")",
+            "9)",
+        ],
+    );
+    all_are(2, &["(1)V", "9(1)V9", "(1)CR", "(1)R", "(1)D", "9(1)DB", "(2", "(2)", "((2)9)", "(2)(9", "(a)9", "(2)Q"]);
+    accepted("(63)B9", 64);
+}
+
+#[test]
+fn symbols_before_length() {
+    all_are(2, &["(64)9(64)9Q", "Q(64)9(64)9"]);
+    all_are(3, &["(64)9(64)9", "(64)9V", "(63)B9V", "(62)B9CR", "(61)B9VCR", "VV(64)9", "(64)Z9"]);
+    all_are(0, &["(62)B9V", "(61)B9CR", "(60)B9VDB"]);
+}
+
+#[test]
+fn pictures_without_a_digit() {
+    all_are(4, &["VV", "S+", "SCR", "+DB", "VVCR"]);
+    all_are(5, &["S$", "$,S", "V", "B", "CR", "DB", "S", "$", ",./B", "VCR", "$VS", "$CR"]);
+}
+
+#[test]
+fn places_of_v() {
+    all_are(0, &["V$9", "VS9", "9V-", "9-V", "9V$", ",V.9", "9VCR", "$V$", "$,V.$", "V9", "9V", "BV9", "*V**DB"]);
+    all_are(4, &["V$$", "VSS9", ",V,--", "9V9V", "V$$9"]);
+    all_are(2, &["9CVR", "9CRV", "9DVB"]);
+    edits("$V$", 5, 1, "$5");
+    edits("V$9", 5, 1, "$5");
+    edit_is(8, "$V$", 1, 0);
+}
+
+#[test]
+fn places_of_static_symbols() {
+    all_are(4, &["$S$", "S$S", "9$9", "Z-Z", "$$S9", "S9$9", "$$,S$", "ZV-Z"]);
+    all_are(0, &["S$9", "$S9", "9S$", "S9$", "$9-", "S$$9", "$$9S", ",$,S,9", "$ZZ9CR"]);
+}
+
+#[test]
+fn kinds_of_signs_and_suppression() {
+    all_are(
+        4,
+        &["S9S$$", "SS$$", "++--", "S9-", "S9CR", "-9DB", "--9CR", "+9-", "Z*", "*Z9", "ZSS", "$$*", "9Z", "99$$"],
+    );
+    all_are(4, &["9VZ", "Z9VZ", "$$9V$", "9VS9S", "*9V*"]);
+    all_are(0, &["ZVZ", "*V*", "$$V$", "ZV9", "Z9V9", "$$9CR", "S9V9", "ZZVZZ-", "S**"]);
+}
+
+#[test]
+fn numbers_of_digits() {
+    all_are(0, &["(16)$", "(16)-", "(15)Z", "(15)9", "(8)ZV(7)Z", "(8)9V(7)9"]);
+    all_are(5, &["(17)$", "(16)Z", "(16)9", "(8)ZV(8)Z", "(64)9", "(64)*"]);
+}
+
+#[test]
+fn zero_has_the_plus() {
+    for (text, field) in
+        [("S9", "+0"), ("+9", "+0"), ("-9", "_0"), ("9CR", "0__"), ("9DB", "0__"), ("SS9", "_+0"), ("--9", "__0")]
+    {
+        edits(text, -9, 1, field);
+        edits(text, 0, 0, field);
+        reads(text, field, 0);
+    }
+    for (text, field) in [
+        ("S9", "-0"),
+        ("+9", "_0"),
+        ("-9", "-0"),
+        ("9CR", "0CR"),
+        ("9DB", "0DB"),
+        ("SS9", "_-0"),
+        ("++9", "__0"),
+        ("--9", "_-0"),
+    ] {
+        read_is(10, text, field);
+    }
+    read_is(10, "+99", "_00");
+    edits("99", -9, 1, "00");
+    edit_is(8, "99", -1, 0);
+    edits("ZZCR", -9, 1, "____");
+}
+
+#[test]
+fn everything_suppressed() {
+    for (text, field) in [
+        ("+ZZ", "___"),
+        ("+++", "___"),
+        ("$ZZ", "___"),
+        ("Z,ZS", "____"),
+        ("**CR", "****"),
+        ("$*,*-", "*****"),
+        ("*DB", "***"),
+    ] {
+        edits(text, 0, 0, field);
+        reads(text, field, 0);
+    }
+    read_is(10, "**CR", "**__");
+    read_is(10, "$ZZ", "$__");
+    read_is(10, "+ZZ", "+__");
+    read_is(10, "***", "___");
+    read_is(10, "Z", "*");
+    read_is(10, "VZZ", "00");
+    read_is(10, "ZV.ZZ", "_.00");
+}
+
+#[test]
+fn whole_part_too_large() {
+    edit_is(8, "V99", 1, 0);
+    edit_is(8, "V99", 100, 2);
+    edits("V99", 99, 2, "99");
+    edits("V99", 9_999, 4, "99");
+    edit_is(8, "9V(14)9", 10, 0);
+    edits("9V(14)9", 9, 0, "900000000000000");
+    edits("V(15)9", 999_999_999_999_999, 15, "999999999999999");
+    edits("(15)9", 999_999_999_999_999, 0, "999999999999999");
+}
+
+#[test]
+fn insertions_beside_the_stretch() {
+    edits(",ZZ", 1, 0, ",_1");
+    edits(",ZZ", 0, 0, "___");
+    edits("ZZ,", 5, 0, "_5,");
+    edits("ZZ,", 0, 0, "___");
+    edits("V.ZZ", 1, 2, ".01");
+    edits("VZZ", 1, 2, "01");
+    edits("V,.Z", 1, 1, ",.1");
+    edits("V,.Z", 0, 0, "___");
+    edits("ZV.9", 0, 0, "_.0");
+    edits("$$,9", 5, 0, "__$5");
+    edits("$$B9", 5, 0, "__$5");
+    edits("**,**9", 7, 0, "*****7");
+    edits("$$,$$9", 12, 0, "___$12");
+    edits("$,$9", 0, 0, "__$0");
+}
+
+#[test]
+fn ranges_of_values_come_first() {
+    for m in [1_000_000_000_000_000, -1_000_000_000_000_000, i64::MAX, i64::MIN, i64::MIN + 1] {
+        for q in [0, 15, 16] {
+            edit_is(6, "9", m, q);
+        }
+    }
+    for q in [16, 17, 256, 1 << 32, u64::MAX] {
+        edit_is(6, "9", 0, q);
+        edit_is(6, "9", -999, q);
+    }
+    edit_is(8, "9", 999_999_999_999_999, 0);
+    edit_is(8, "9", -999_999_999_999_999, 14);
+    edits("9", -999_999_999_999_999, 15, "0");
+    edits("9", 999_999_999_999_999, 14, "9");
+}
+
+#[test]
+fn order_of_refusals_on_one_picture() {
+    assert_eq!(edit(b"", i64::MIN, 99, &mut []).number, 1);
+    assert_eq!(edit(b"9Z", i64::MIN, 99, &mut []).number, 4);
+    assert_eq!(edit(b"9", i64::MIN, 0, &mut []).number, 6);
+    assert_eq!(edit(b"9", 10, 0, &mut []).number, 8);
+    assert_eq!(edit(b"9", 9, 0, &mut []).number, 7);
+    assert_eq!(read(b"(16)9", b"").number, 5);
+    assert_eq!(read(b"9", b"").number, 9);
+    assert_eq!(read(b"9", b"xx").number, 9);
+    assert_eq!(read(b"9", b"x").number, 10);
+}
+
+#[test]
+fn blank_is_never_a_nine() {
+    read_is(10, "9", "_");
+    read_is(10, "Z9", "__");
+    read_is(10, "9V9", "1_");
+    reads("Z9", "_0", 0);
+    reads("+Z", "_5", -5);
+    reads("-Z", "_5", 5);
+}
+
+#[test]
+fn layouts_that_are_refused() {
+    compile_is(11, 0, b"");
+    compile_is(11, 0, b"9");
+    compile_is(11, 0, b"9;9");
+    compile_is(11, 0, b"9;\r");
+    compile_is(1, 1, b";");
+    compile_is(1, 2, b"9;;Q;");
+    compile_is(11, 0, &b";".repeat(33));
+    compile_is(11, 0, &b"9;".repeat(33));
+    compile_is(1, 1, &b";".repeat(32));
+    compile_is(4, 3, b"9;Z;9Z;Q;");
+    compile_is(2, 1, b"(1)V;9Z;");
+    compile_is(5, 2, b"9;CR;");
+    compile_is(3, 2, b"9;(64)9V;");
+    compile_is(1, 2, &[b"9;", &b"9".repeat(129)[..], b";"].concat());
+}
+
+#[test]
+fn the_longest_layout() {
+    let picture = [&b"(01)B".repeat(25)[..], b"999"].concat();
+    let layout = [&picture[..], b";"].concat().repeat(32);
+    assert_eq!(layout.len(), 4_128);
+    let needed = 1 + 96 + 2 + 32 * 28;
+    assert_eq!(compile(&layout, &mut vec![0; needed]), Answer::success(needed));
+    assert_eq!(compile(&layout, &mut vec![0; needed - 1]).number, 7);
+    compile_is(11, 0, &[&layout[..], b";"].concat());
+    let too_long = [&layout[..4_127], b"9;"].concat();
+    assert_eq!(too_long.len(), 4_129);
+    compile_is(11, 0, &too_long);
+}
+
+#[test]
+fn v_at_the_end_gives_the_plan_of_no_v() {
+    assert_eq!(plan("9V;"), plan("9;"));
+    assert_eq!(plan("9CR;"), [1, 3, 3, 0, 0, 3, 0, 11, 12]);
+    assert_eq!(plan("9-V;"), plan("9-;"));
+    assert_ne!(plan("9V-;"), plan("9-;"));
+    assert_eq!(plan("9VCR;"), [1, 3, 1, 0, 0, 3, 0, 11, 12]);
+    for layout in ["9V;", "9;"] {
+        let plan = plan(layout);
+        let (mut row, mut record) = ([0], [0]);
+        assert_eq!(plan_edit(&plan, &[7], &mut record), Answer::success(1));
+        assert_eq!(plan_read(&plan, &record, &mut row), Answer::success(1));
+        assert_eq!((record, row), ([b'7'], [7]));
+        assert_eq!(plan_edit(&plan, &[10], &mut record).number, 8);
+    }
+}
+
+#[test]
+fn bytes_that_are_no_plan() {
+    let field = |n: u8, v: u8, kind: u8, positions: &[u8]| [&[1, n, v, kind, 0, n], positions].concat();
+    let full = [&[0][..], &[10; 63]].concat();
+    assert!(is_plan(&field(64, 64, 0, &full)));
+    assert!(!is_plan(&field(64, 1, 0, &full)), "64 positions and a V");
+    assert!(is_plan(&field(3, 1, 0, &[0, 11, 12])) && is_plan(&field(3, 1, 0, &[0, 13, 14])));
+    assert!(!is_plan(&field(3, 2, 0, &[0, 11, 12])) && !is_plan(&field(3, 2, 0, &[0, 13, 14])), "V within a mark");
+    assert!(!is_plan(&field(3, 3, 0, &[0, 13, 10])) && !is_plan(&field(3, 3, 0, &[0, 10, 14])), "half a mark");
+    for kind in 1..=6 {
+        assert!(!is_plan(&field(1, 1, kind, &[0])), "kind {kind} borne out by no position");
+    }
+    assert!(!is_plan(&field(3, 3, 3, &[3, 2, 1])), "S drifting and static");
+    assert!(!is_plan(&field(3, 3, 0, &[3, 0, 3])), "S static twice");
+    assert!(!is_plan(&field(2, 2, 6, &[2, 0])), "first drifting symbol alone");
+    assert!(!is_plan(&field(3, 3, 0, &[3, 0, 5])), "two signs");
+    assert!(!is_plan(&field(2, 2, 1, &[0, 1])), "suppressible digit behind a nine");
+    assert!(!is_plan(&field(3, 1, 1, &[1, 1, 0])), "suppressible digit behind V beside a nine");
+    assert!(!is_plan(&field(16, 16, 0, &[0; 16])) && is_plan(&field(15, 15, 0, &[0; 15])), "digits");
+    assert!(!is_plan(&field(1, 2, 0, &[0])) && !is_plan(&field(0, 0, 0, &[])), "V beyond the end; no position");
+    assert!(!is_plan(&[]) && !is_plan(&[0]) && !is_plan(&[0, 0, 0]), "no field");
+}
+
+#[test]
+fn counts_of_plans() {
+    let of = |fields: u8| {
+        let heads = [1, 1, 0].repeat(usize::from(fields));
+        [&[fields][..], &heads, &[0, fields], &vec![0; usize::from(fields)]].concat()
+    };
+    assert!(is_plan(&of(1)) && is_plan(&of(32)) && !is_plan(&of(33)) && !is_plan(&of(0)));
+    let good = plan("ZZ9V.99;-9;");
+    assert!(!is_plan(&good[..16]) && !is_plan(&[&good[..], &[0]].concat()));
+    for (at, byte) in [(7, 1), (8, 7), (8, 9)] {
+        let mut changed = good.clone();
+        changed[at] = byte;
+        assert!(!is_plan(&changed));
+    }
+    let large = plan(&"(49)/(15)9;".repeat(32));
+    assert_eq!(large.len(), 2_147);
+    assert_eq!(large[97..99], [8, 0]);
+    assert!(is_plan(&large));
+}
+
+#[test]
+fn order_of_refusals_in_plan_reading() {
+    let plan = plan("9;99;S9;");
+    let mut row = [5; 3];
+    assert_eq!(plan_read(&plan[1..], b"", &mut []).number, 12);
+    assert_eq!(plan_read(&plan, b"1", &mut []).number, 9);
+    assert_eq!(plan_read(&plan, b"x22+3", &mut row[..2]).number, 7);
+    let second_bad = Answer { number: 10, field: 2, length: 0, value: 0 };
+    assert_eq!(plan_read(&plan, b"12x 3", &mut row), second_bad);
+    assert_eq!(row, [5; 3]);
+    assert_eq!(plan_read(&plan, b"122-3", &mut row), Answer::success(3));
+    assert_eq!(row, [1, 22, -3]);
+}
+
+#[test]
+fn order_of_refusals_in_plan_editing() {
+    let plan = plan("9;99V9;S9;");
+    let mut record = [b'#'; 6];
+    let at = |number, field| Answer { number, field, length: 0, value: 0 };
+    assert_eq!(plan_edit(&plan[1..], &[], &mut []), at(12, 0));
+    assert_eq!(plan_edit(&plan, &[1, 2], &mut []), at(9, 0));
+    assert_eq!(plan_edit(&plan, &[1, 2, 3, 4], &mut record), at(9, 0));
+    assert_eq!(plan_edit(&plan, &[10, i64::MIN, 0], &mut []), at(8, 1));
+    assert_eq!(plan_edit(&plan, &[9, i64::MIN, 10], &mut []), at(6, 2));
+    assert_eq!(plan_edit(&plan, &[9, 1_000, i64::MAX], &mut []), at(8, 2));
+    assert_eq!(plan_edit(&plan, &[9, -1, -9], &mut []), at(8, 2));
+    assert_eq!(plan_edit(&plan, &[9, 999, 1_000_000_000_000_000], &mut []), at(6, 3));
+    assert_eq!(plan_edit(&plan, &[9, 999, -9], &mut record[..5]), at(7, 0));
+    assert_eq!(record, [b'#'; 6]);
+    assert_eq!(plan_edit(&plan, &[9, 999, -9], &mut record), Answer::success(6));
+    assert_eq!(&record, b"9999-9");
+}

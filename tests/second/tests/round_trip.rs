@@ -1,0 +1,89 @@
+//! Random accepted pictures of every kind: what editing gives, reading gives back, and whatever is read edits to the same field.
+
+use second::make::pictures::accepted;
+use second::make::random::Random;
+use second::make::values::{fitting, for_picture};
+use second::rules_of_shape::Picture;
+use second::{edit, read, Answer};
+
+fn field(text: &[u8], m: i64, q: u64) -> Option<Vec<u8>> {
+    let mut out = vec![0; 64];
+    let answer = edit(text, m, q, &mut out);
+    out.truncate(answer.length as usize);
+    (answer.number == 0).then_some(out)
+}
+
+/// Every value that fits if there are few, else a sample.
+fn values(random: &mut Random, picture: &Picture) -> Vec<i64> {
+    let digits = picture.digits.len() as u32;
+    if digits > 2 {
+        return (0..25).map(|_| fitting(random, picture)).collect();
+    }
+    let largest = 10i64.pow(digits) - 1;
+    (if picture.signed() { -largest } else { 0 }..=largest).collect()
+}
+
+#[test]
+fn editing_then_reading_gives_the_value_back() {
+    let mut random = Random::new(1);
+    for _ in 0..6_000 {
+        let text = accepted(&mut random);
+        let picture = Picture::of(&text).unwrap();
+        for m in values(&mut random, &picture) {
+            let shown = field(&text, m, picture.f() as u64).expect("the value fits");
+            assert_eq!(shown.len(), picture.n());
+            assert_eq!(read(&text, &shown), Answer::value(m), "{}", text.escape_ascii());
+        }
+    }
+}
+
+#[test]
+fn values_of_any_scale_come_back_cut() {
+    let mut random = Random::new(2);
+    for _ in 0..40_000 {
+        let text = accepted(&mut random);
+        let picture = Picture::of(&text).unwrap();
+        let (m, q) = for_picture(&mut random, &picture);
+        if let Some(shown) = field(&text, m, q) {
+            let cut = i128::from(m) * 10i128.pow(picture.f() as u32) / 10i128.pow(q as u32);
+            assert_eq!(i128::from(read(&text, &shown).value), cut, "{} {m}@{q}", text.escape_ascii());
+        }
+    }
+}
+
+#[test]
+fn a_changed_byte_is_refused_or_gives_another_field() {
+    let mut random = Random::new(3);
+    for _ in 0..2_500 {
+        let text = accepted(&mut random);
+        let picture = Picture::of(&text).unwrap();
+        let m = fitting(&mut random, &picture);
+        let shown = field(&text, m, picture.f() as u64).expect("the value fits");
+        let at = random.below(shown.len());
+        for byte in 0..=255 {
+            let mut changed = shown.clone();
+            changed[at] = byte;
+            let answer = read(&text, &changed);
+            match answer.number {
+                0 => {
+                    assert_eq!(field(&text, answer.value, picture.f() as u64), Some(changed), "{}", text.escape_ascii())
+                }
+                number => assert_eq!(number, 10),
+            }
+        }
+    }
+}
+
+#[test]
+fn one_byte_more_or_less_is_a_wrong_length() {
+    let mut random = Random::new(4);
+    for _ in 0..500 {
+        let text = accepted(&mut random);
+        let picture = Picture::of(&text).unwrap();
+        let mut shown = field(&text, 1, 15).expect("every picture takes it");
+        shown.push(b' ');
+        assert_eq!(read(&text, &shown).number, 9);
+        shown.truncate(picture.n() - 1);
+        assert_eq!(read(&text, &shown).number, 9);
+    }
+}
