@@ -30,14 +30,14 @@ use Rattle.rules.proofs.Logic.{both, by-test, neither, side}
 use Rattle.rules.proofs.Sound.{sound}
 use Rattle.rules.proofs.Unique.{unique}
 
-shown-length : (rs f : List ℕ) → length (shownIn rs f) ≡ count isDigit rs
+pub shown-length : (rs f : List ℕ) → length (shownIn rs f) ≡ count isDigit rs
 unfolding shownIn count
 shown-length [] f = refl
 shown-length (r ∷ rs) f =
     let ih = shown-length rs (drop 1 f) in
     ⊎-elim (λ (e : isDigit r ≡ true). rw e (ap suc ih)) (λ (e : isDigit r ≡ false). rw e ih) (side (isDigit r))
 
-shown-digits : (rs f : List ℕ) → Digits (shownIn rs f)
+pub shown-digits : (rs f : List ℕ) → Digits (shownIn rs f)
 unfolding shownIn
 shown-digits [] f k = lit< tt
 shown-digits (r ∷ rs) f k =
@@ -58,7 +58,7 @@ module _ (φ : Form) where
   unfolding aligned
   own-aligned m = mul-div-cancel (natAbs m) (ten-pos (places φ))
 
-  digit-sum : whole φ + places φ ≡ digitCount φ
+  pub digit-sum : whole φ + places φ ≡ digitCount φ
   unfolding whole places
   digit-sum = count-split isDigit (φ .vee) (φ .roles)
 

@@ -10,7 +10,7 @@ use borrow.Author.Tests.{not-true}
 use lib.Dec.{eqb, leb}
 use lib.ListN.{replicate}
 use Rattle.rules.specs.Words.{has}
-use Rattle.rules.specs.Text.{copies, ended, expandFrom, isMark, isPlain, isSymbol, next, onto, repeatable, repeats, symbols}
+use Rattle.rules.specs.Text.{allows, copies, ended, expandFrom, isMark, isPlain, isSymbol, mostCopies, next, onto, repeatable, repeats, symbols}
 use Rattle.rules.specs.declared.Mode.{Mode}
 use Rattle.rules.specs.declared.Mode.the-variants.{Closed, OneDigit, Opened, Plain, Spoilt, TwoDigits}
 use Rattle.rules.proofs.Lists.{all, members}
@@ -45,7 +45,7 @@ legal Opened b = inr (inl refl)
 legal (OneDigit n) b = inr (inl refl)
 legal (TwoDigits n) b = inr (inl refl)
 legal (Closed n) b =
-    by-test (repeats b && (leb 1 n && leb n 64)) (λ q. inr (inr (repeats-symbol b (both (repeats b) (leb 1 n && leb n 64) q .0)))) (λ q. inl (rw q))
+    by-test (allows n b) (λ q. inr (inr (repeats-symbol b (both (repeats b) (leb 1 n && leb n mostCopies) q .0)))) (λ q. inl (rw q))
 legal Spoilt b = inl refl
 
 stays-spoilt : (t s : List ℕ) → expandFrom Spoilt t ≡ some s → ⊥

@@ -1,16 +1,16 @@
 -- A form is that of an accepted text exactly when it is good: a good form written back as a text is accepted and means that form again, and
 -- the form of an accepted text is good. Assumes nothing.
-use Prim.Native.Nat.{ℕ, zero, suc, _+_, _-_, _≤_}
+use Prim.Native.Nat.{ℕ, _+_, _-_, _≤_}
 use mathlib.Core.Path.{_≡_, refl, sym, ap, _∙_}
-use mathlib.Core.Bool.{Bool, true, false, cond, true≢false}
-use mathlib.Core.List.{List, _∷_, map}
+use mathlib.Core.Bool.{true, false, cond, true≢false}
+use mathlib.Core.List.{List, map}
 use mathlib.Core.Option.{Option, none, some}
 use native.Mathlib.Omega.{arith}
 use borrow.Author.Tests.{eqb-true, eqb-false, leb-true, leb-false, not-true, le-leb, eq-eqb, ne-eqb}
 use lib.Dec.{eqb, leb, ltb}
 use lib.ListN.{length, length-map}
 use Rattle.rules.specs.Words.{any, count, one, place, times}
-use Rattle.rules.specs.Numbers.{firstOf, unless}
+use Rattle.rules.specs.Numbers.{firstOf}
 use Rattle.rules.specs.Text.{expand, isSome, mostSymbols, orNone, symbolsOf, textFits, theV}
 use Rattle.rules.specs.Roles.{driftsSign, isDigit, isSign, isSuppressible, lastKind}
 use Rattle.rules.specs.Form.{Form, formOf, kindOf, meaning, numbers, rolesFrom, size, suppresses}
@@ -19,6 +19,7 @@ use Rattle.rules.specs.Edit.{marks}
 use Rattle.rules.specs.Layout.{accepted}
 use Rattle.rules.specs.Good.{bears, fitsRoom, good, inOrder, marksLast, oneDollar, plainNumber, suppressing, wellMade}
 use Rattle.rules.proofs.Expand.{expanded, own-expansion, spelled}
+use Rattle.rules.proofs.Firsts.{first-zero, unless-zero}
 use Rattle.rules.proofs.Kinship.{any-times, borne-first, borne-met, length-roles, marks-numbers, marks-roles, no-kind, no-static, only-back, only-numbers, only-of, ordered, plain-numbers, roles-back, times-count, times-roles, up-to-le}
 use Rattle.rules.proofs.Lists.{all-below, allBelow, count-le}
 use Rattle.rules.proofs.Logic.{both, by-test}
@@ -237,17 +238,7 @@ module _ (s : List ℕ) (p : spelled s ≡ true) (o : suppressing lastKind (numb
         le-leb (length ms + one (ltb (place theV s) (length ms))) 64 (omega (arith, i .size)),
       )
 
--- What the first of several numbers says.
-pub first-zero : (n : ℕ) (ns : List ℕ) → firstOf (n ∷ ns) ≡ 0 → (n ≡ 0) × (firstOf ns ≡ 0)
-unfolding firstOf
-first-zero zero ns h = (refl, h)
-first-zero (suc n) ns h = absurd (omega arith)
-
-pub unless-zero : (t : Bool) (n : ℕ) → unless t (suc n) ≡ 0 → t ≡ true
-unless-zero true n h = refl
-unless-zero false n h = absurd (omega arith)
-
-spelled-some : (o : Option (List ℕ)) → isSome o ≡ true → o ≡ some (orNone o)
+pub spelled-some : (o : Option (List ℕ)) → isSome o ≡ true → o ≡ some (orNone o)
 spelled-some none h = absurd (true≢false (sym h))
 spelled-some (some s) h = refl
 

@@ -3,7 +3,9 @@ pub mod Logic
 pub mod Lists
 pub mod Search
 pub mod Digits
+pub mod Firsts
 pub mod Expand
+pub mod Marks
 pub mod WriteBack
 pub mod Spelling
 pub mod Kinship
@@ -15,5 +17,6 @@ pub mod Stretch
 pub mod Fields
 pub mod Unique
 pub mod Exact
+pub mod PlanWalk
 pub mod Outcomes
 pub mod Examples

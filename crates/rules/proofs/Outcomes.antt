@@ -11,7 +11,7 @@ use Rattle.rules.specs.Words.{one}
 use Rattle.rules.specs.Numbers.{firstOf}
 use Rattle.rules.specs.Form.{Form, meaning, size}
 use Rattle.rules.specs.Shape.{digitsFit, verdict}
-use Rattle.rules.specs.Layout.{HasPlan, forms}
+use Rattle.rules.specs.Layout.{HasPlan, accepted, forms, planOf}
 use Rattle.rules.specs.Answers.{ByPlan, PlanEditIs, PlanReadIs, ReadIs, RecordIs, RecordReads, RowIs, as-layout, no-plan, notPlan, readAnswer, recordAnswer, rowAfter}
 use Rattle.rules.specs.Good.{good}
 use Rattle.rules.specs.Candidate.{readAll, readOf}
@@ -97,6 +97,19 @@ plan-edit-one b row out = plan-one-outcome b out (λ φs r x. RowIs φs row out 
 -- two accepted layouts with one plan read every record and edit every row alike
 pub alike : (b l m : List ℕ) → HasPlan l b → HasPlan m b → (Right : List Form → Type 0) → Right (forms l) → Right (forms m)
 alike b l m p q Right h = rw (← layout-one b l m p q) h
+
+-- The plan of an accepted layout is never refused as one: by it every outcome is that of the layout's own text.
+pub of-layout : (l b : List ℕ) → HasPlan l b → (Refused : Type 0) (Right : List Form → Type 0) → ByPlan b Refused Right → Right (forms l)
+of-layout l b p Refused Right (no-plan n q) = absurd (n l p)
+of-layout l b p Refused Right (as-layout m q h) = alike b m l q p Right h
+
+pub compiled-reads : (l : List ℕ) → accepted l ≡ true → (rec : List ℕ) (row : List ℤ) (r : Answer) (after : List ℤ) → PlanReadIs (planOf (forms l)) rec row r after
+    → RecordIs (forms l) rec row r after
+compiled-reads l a rec row r after = of-layout l (planOf (forms l)) (record { layout = a; plan = refl }) _ (λ φs. RecordIs φs rec row r after)
+
+pub compiled-edits : (l : List ℕ) → accepted l ≡ true → (row : List ℤ) (out : List ℕ) (r : Answer) (after : List ℕ) → PlanEditIs (planOf (forms l)) row out r after
+    → RowIs (forms l) row out r after
+compiled-edits l a row out r after = of-layout l (planOf (forms l)) (record { layout = a; plan = refl }) _ (λ φs. RowIs φs row out r after)
 
 -- What the plan's test decides: a refusal, or the outcome of some layout's forms, which are those that the bytes hold.
 pub by-plan : (b : List ℕ) (Refused : Type 0) (Right : List Form → Type 0) → (isPlan b ≡ false → Refused) → (isPlan b ≡ true → Right (formsIn b)) → ByPlan b Refused Right

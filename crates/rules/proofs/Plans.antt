@@ -20,7 +20,8 @@ use Rattle.rules.specs.Layout.{HasPlan, accepted, closes, countFits, cut
 use Rattle.rules.specs.Good.{good}
 use Rattle.rules.specs.PlanBytes.{allGood, formsFrom, formsIn, isPlan}
 use Rattle.rules.proofs.Expand.{spelled}
-use Rattle.rules.proofs.Forms.{accepted-good, first-zero, good-means, good-parts, size-le, spelled-back, unless-zero}
+use Rattle.rules.proofs.Firsts.{first-zero, unless-zero}
+use Rattle.rules.proofs.Forms.{accepted-good, good-means, good-parts, size-le, spelled-back}
 use Rattle.rules.proofs.Lists.{all, members, same-eq, same-refl}
 use Rattle.rules.proofs.Logic.{both, by-or, by-test, eqb-swap, neither}
 use Rattle.rules.proofs.WriteBack.{layoutOf, writeBack}
@@ -42,6 +43,10 @@ unfolding positions recordLength
 length-positions [] = refl
 length-positions (φ ∷ φs) = simp length-append (omega (arith, length-positions φs))
 
+pub plan-length : (φs : List Form) → length (planOf φs) ≡ 3 * length φs + 3 + recordLength φs
+unfolding planOf
+plan-length φs = simp length-append (omega (arith, length-headers φs, length-positions φs))
+
 -- what follows a plan is not looked at
 pub forms-ahead : (φs : List Form) (y : List ℕ) → formsIn (planOf φs ++ y) ≡ φs
 unfolding formsIn planOf
@@ -62,6 +67,15 @@ forms-back φs = rw append-nil at (forms-ahead φs [])
 -- two lists of forms with one plan are the same
 pub plan-one : (φs ψs : List Form) → planOf φs ≡ planOf ψs → φs ≡ ψs
 plan-one φs ψs e = sym (forms-back φs) ∙ ap formsIn e ∙ forms-back ψs
+
+-- a record of good forms has at most 64 characters a field
+pub record-le : (φs : List Form) → allGood φs ≡ true → recordLength φs ≤ 64 * length φs
+unfolding recordLength allGood
+record-le [] h = omega arith
+record-le (φ ∷ φs) h =
+    let w = both (good φ) (allGood φs) h in
+    let g = good-parts φ (w .0) in
+    omega (arith, g .size, record-le φs (w .1))
 
 -- A layout made of good forms.
 plain-byte : (b : ℕ) → isSymbol b ≡ true → eqb (code ";") b ≡ false

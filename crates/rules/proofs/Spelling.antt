@@ -153,11 +153,11 @@ unfolding place
 place-later x y ys e = rw (eqb-swap x y, e)
 
 module _ (b : ℕ) (s : List ℕ) (e : isMark (b ∷ s) ≡ false) where
-  numbers-v : eqb b theV ≡ true → numbers (b ∷ s) ≡ numbers s
+  pub numbers-v : eqb b theV ≡ true → numbers (b ∷ s) ≡ numbers s
   unfolding numbers
   numbers-v q = rw (e, q)
 
-  numbers-other : eqb b theV ≡ false → numbers (b ∷ s) ≡ number b ∷ numbers s
+  pub numbers-other : eqb b theV ≡ false → numbers (b ∷ s) ≡ number b ∷ numbers s
   unfolding numbers
   numbers-other q = rw (e, q)
 

@@ -1,12 +1,13 @@
 -- 01, "Rules of shape": each rule under its name with 01's sentence; the number of digits; the verdict on a picture text. Assumes nothing.
 use Prim.Native.Nat.{ℕ, _+_}
-use mathlib.Core.Bool.{Bool, true, false, not, _&&_, _||_}
+use mathlib.Core.Bool.{Bool, true, false, cond, not, _&&_, _||_}
 use mathlib.Core.List.{List, [], _∷_}
-use lib.Dec.{leb}
+use lib.Dec.{leb, eqb}
 use lib.ListN.{length, take, drop}
+use Rattle.rules.specs.declared.Picture.{Picture}
 use Rattle.rules.specs.Words.{one, times, any, count}
 use Rattle.rules.specs.Numbers.{TEXT, SYMBOL, LONG, SHAPE, DIGITS, unless, firstOf}
-use Rattle.rules.specs.Text.{theV, textFits, isSpelled, symbolsOf, mostSymbols}
+use Rattle.rules.specs.Text.{theV, textFits, isSpelled, symbolsOf, mostSymbols, roomOf}
 use Rattle.rules.specs.Roles.{isNine, isSuppressible, isDigit, isFirstDrifting, isStatic, isSign, driftsSign}
 use Rattle.rules.specs.Form.{Form, numbers, suppresses, formOf}
 
@@ -85,3 +86,7 @@ verdict t =
     unless (leb (length (symbolsOf t)) mostSymbols) LONG ∷
     unless (shape (symbolsOf t)) SHAPE ∷
     unless (digitsFit (formOf (symbolsOf t))) DIGITS ∷ [])
+
+-- "a refused picture has count 0 and every place 0"
+unfoldable pub pictureOf : List ℕ → Picture
+pictureOf t = cond (eqb (verdict t) 0) (roomOf (symbolsOf t)) (roomOf [])

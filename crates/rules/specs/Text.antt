@@ -5,7 +5,8 @@ use mathlib.Core.Bool.{Bool, true, false, cond, _&&_, _||_}
 use mathlib.Core.List.{List, [], _∷_, _++_}
 use mathlib.Core.Option.{Option, none, some}
 use lib.Dec.{leb, eqb}
-use lib.ListN.{length, replicate}
+use lib.ListN.{length, take, replicate}
+use Rattle.rules.specs.declared.Picture.{Picture}
 use Rattle.rules.specs.declared.Mode.{Mode}
 use Rattle.rules.specs.declared.Mode.the-variants.{Plain, Opened, OneDigit, TwoDigits, Closed, Spoilt}
 use Rattle.rules.specs.Words.{text, has, same}
@@ -54,13 +55,17 @@ isPlain (TwoDigits n) = false
 isPlain (Closed n) = false
 isPlain Spoilt = false
 
+-- a factor n may stand before this byte
+abbrev pub allows : ℕ → ℕ → Bool
+allows n b = repeats b && (leb 1 n && leb n mostCopies)
+
 -- the mode after one byte more
 unfoldable pub next : Mode → ℕ → Mode
 next Plain b = cond (eqb b (code "(")) Opened (cond (isSymbol b) Plain Spoilt)
 next Opened b = cond (isDecimal b) (OneDigit (worth b)) Spoilt
 next (OneDigit n) b = cond (eqb b (code ")")) (Closed n) (cond (isDecimal b) (TwoDigits (n * 10 + worth b)) Spoilt)
 next (TwoDigits n) b = cond (eqb b (code ")")) (Closed n) Spoilt
-next (Closed n) b = cond (repeats b && (leb 1 n && leb n mostCopies)) Plain Spoilt
+next (Closed n) b = cond (allows n b) Plain Spoilt
 next Spoilt b = Spoilt
 
 -- how many symbols that byte gives
@@ -69,7 +74,7 @@ copies Plain b = cond (eqb b (code "(")) 0 1
 copies Opened b = 0
 copies (OneDigit n) b = 0
 copies (TwoDigits n) b = 0
-copies (Closed n) b = n
+copies (Closed n) b = cond (allows n b) n 0
 copies Spoilt b = 0
 
 -- a text may end where no factor waits for its symbol
@@ -115,3 +120,11 @@ symbolsOf t = orNone (expand t)
 -- "Expanded, a picture has at most 64 symbols; V counts one, CR and DB two each."
 abbrev pub mostSymbols : ℕ
 mostSymbols = 64
+
+-- "The expanded picture is kept as its symbols with their count, in a fixed room of 64. Unused places are 0"
+unfoldable pub roomOf : List ℕ → Picture
+roomOf s = record { symbols = s ++ replicate (mostSymbols - length s) 0; count = length s }
+
+-- the symbols in such a room
+unfoldable pub heldIn : Picture → List ℕ
+heldIn p = take (p .count) (p .symbols)

@@ -24,7 +24,7 @@ pub enum Mode {
     // its parenthesis
     Opened,
     // one digit, or two, and what they are worth
-    OneDigit(usize),
+    OneDigit(u8),
     TwoDigits(usize),
     // all of it: the symbol to repeat must come
     Closed(usize),
