@@ -1,0 +1,5 @@
+pub mod Table
+pub mod Signs
+pub mod Parts
+pub mod Cut
+pub mod Room

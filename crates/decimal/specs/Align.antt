@@ -1,0 +1,13 @@
+-- "Alignment: T is the magnitude times 10^f divided by 10^q, cut toward zero", where the magnitude without its fraction is below 10^i.
+-- Assumes nothing.
+use mathlib.Core.Bool.{true, false, cond, _&&_}
+use Prim.Native.Nat.{ℕ, _+_, _*_, _/_, _^_}
+use lib.Dec.{leb, ltb}
+use Rattle.rules.specs.Shape.{mostDigits}
+use Rattle.decimal.specs.declared.align.Aligned.{Aligned}
+
+unfoldable pub alignedOf : ℕ → ℕ → ℕ → ℕ → Aligned
+alignedOf m q i f =
+    cond (ltb m (10 ^ mostDigits) && (leb q mostDigits && (leb (i + f) mostDigits && ltb (m / 10 ^ q) (10 ^ i))))
+    (record { fits = true; t = m * 10 ^ f / 10 ^ q })
+    (record { fits = false; t = 0 })

@@ -1,0 +1,61 @@
+// A signed number as a sign and a magnitude, and back.
+use super::powers::LIMIT;
+ghost use mathlib.Core.Path.{_≡_};
+ghost use Rattle.decimal.specs.Sign.{partsOf, joinedOf};
+
+// Where `fits` is false the number is 10^15 or more from zero, and the rest is empty.
+pub struct Parts {
+    pub fits: bool,
+    pub negative: bool,
+    pub magnitude: u64,
+}
+
+// The limit with either sign. A negation in a test would be an operation, so the second is a constant too.
+const ABOVE: i64 = 1_000_000_000_000_000;
+
+const BELOW: i64 = -1_000_000_000_000_000;
+
+// The range is tested before the negation, which would wrap at the type's least number.
+pub fn split(m: i64) -> Parts
+    ensures { λ r. ⌜ r ≡ partsOf m ⌝ }
+{
+    let refused = Parts {
+        fits: false,
+        negative: false,
+        magnitude: 0,
+    };
+    if m <= BELOW {
+        return refused;
+    }
+    if ABOVE <= m {
+        return refused;
+    }
+    if m < 0 {
+        let magnitude = (-m) as u64;
+        return Parts {
+            fits: true,
+            negative: true,
+            magnitude,
+        };
+    }
+    let magnitude = m as u64;
+    Parts {
+        fits: true,
+        negative: false,
+        magnitude,
+    }
+}
+
+// A minus before 0 is dropped; a magnitude of 10^15 or more gives 0.
+pub fn joined(negative: bool, magnitude: u64) -> i64
+    ensures { λ r. ⌜ r ≡ joinedOf negative magnitude ⌝ }
+{
+    if LIMIT <= magnitude {
+        return 0;
+    }
+    if negative {
+        -(magnitude as i64)
+    } else {
+        magnitude as i64
+    }
+}

@@ -1,0 +1,4 @@
+pub mod Complement
+pub mod Bytes
+pub mod Run
+pub mod Rows
