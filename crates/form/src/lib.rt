@@ -1,0 +1,294 @@
+// From symbols to form: what a picture means. Each function takes the picture by value.
+use rules::Picture;
+ghost use mathlib.Core.Path.{_≡_};
+ghost use mathlib.Core.Bool.{_&&_};
+ghost use Prim.Native.Nat.{_≤_, _<_};
+ghost use lib.Dec.{leb};
+ghost use lib.ListN.{length, drop};
+ghost use Rattle.rules.specs.Words.{times, place};
+ghost use Rattle.rules.specs.Text.{theV, isMark, heldIn};
+ghost use Rattle.rules.specs.Form.{number, numbers, suppresses, ofKind, rolesFrom, formOf};
+ghost use Rattle.rules.specs.Shape.{oneV, oneDrifts, suppressionApart};
+ghost use Rattle.form.specs.Rooms.{Whole, roleOf, rolesRoom, placedIn, suppressionOf, meaningOf, kindLetter, markNumber};
+
+// Roles with their count, in a room of 64; unused places are 0.
+pub struct Roles {
+    pub at: [u8; 64],
+    pub count: usize,
+}
+
+// Roles placed so far, and whether a symbol of the kind has gone before; under Z and * that holds from the start.
+pub struct Placed {
+    pub roles: Roles,
+    pub met: bool,
+}
+
+// What a picture has of suppression: its kind, and how many kinds there are in it.
+pub struct Suppression {
+    pub kind: u8,
+    pub kinds: usize,
+}
+
+// A form: the roles of its positions with their number, the positions before V, and the kind.
+pub struct Meaning {
+    pub roles: [u8; 64],
+    pub size: usize,
+    pub vee: usize,
+    pub kind: u8,
+}
+
+// How many symbols the room holds; a count over 64 means all of it.
+fn held(picture: Picture) -> usize
+    ensures { λ r. ⌜ (r ≡ length (heldIn picture)) × (r ≤ 64) ⌝ }
+{
+    let count = picture.count;
+    if 64 <= count {
+        return 64;
+    }
+    count
+}
+
+// How often the symbol stands in the picture.
+fn tally(picture: Picture, symbol: u8) -> usize
+    ensures { λ r. ⌜ r ≡ times symbol (heldIn picture) ⌝ }
+{
+    let end = held(picture);
+    let mut n: usize = 0;
+    for i in 0..end {
+        if symbol == picture.symbols[i] {
+            n += 1;
+        }
+    }
+    n
+}
+
+// The positions before V; all of them if there is none.
+fn vee_of(picture: Picture) -> usize
+    ensures { λ r. ⌜ r ≡ place theV (heldIn picture) ⌝ }
+{
+    let end = held(picture);
+    for i in 0..end {
+        if picture.symbols[i] == b'V' {
+            return i;
+        }
+    }
+    end
+}
+
+// "At most one V."
+pub fn one_v(picture: Picture) -> bool
+    ensures { λ r. ⌜ r ≡ oneV (heldIn picture) ⌝ }
+{
+    tally(picture, b'V') <= 1
+}
+
+// The symbol of a kind.
+fn letter_of(kind: u8) -> u8
+    requires { ⌜ (1 ≤ kind) × (kind ≤ 6) ⌝ }
+    ensures { λ r. ⌜ r ≡ kindLetter kind ⌝ }
+{
+    if kind == 1 {
+        return b'Z';
+    }
+    if kind == 2 {
+        return b'*';
+    }
+    if kind == 3 {
+        return b'S';
+    }
+    if kind == 4 {
+        return b'+';
+    }
+    if kind == 5 {
+        return b'-';
+    }
+    b'$'
+}
+
+// Z and * suppress wherever they stand; S, +, - and $ where they stand twice or more.
+fn does_suppress(picture: Picture, kind: u8) -> bool
+    requires { ⌜ (1 ≤ kind) × (kind ≤ 6) ⌝ }
+    ensures { λ r. ⌜ r ≡ suppresses kind (numbers (heldIn picture)) ⌝ }
+{
+    let n = tally(picture, letter_of(kind));
+    if kind <= 2 {
+        return 1 <= n;
+    }
+    2 <= n
+}
+
+fn suppression_in(picture: Picture) -> Suppression
+    ensures { λ r. ⌜ r ≡ suppressionOf (numbers (heldIn picture)) ⌝ }
+{
+    let mut kind: u8 = 0;
+    let mut kinds: usize = 0;
+    let mut k: u8 = 1;
+    while k <= 6 {
+        if does_suppress(picture, k) {
+            kind = k;
+            kinds += 1;
+        }
+        k += 1;
+    }
+    Suppression { kind, kinds }
+}
+
+// "At most one kind drifts. Z and * don't appear together, and neither appears with a drifting symbol."
+pub fn one_suppresses(picture: Picture) -> bool
+    ensures { λ r. ⌜ r ≡ (oneDrifts (heldIn picture) && suppressionApart (heldIn picture)) ⌝ }
+{
+    let found = suppression_in(picture);
+    found.kinds <= 1
+}
+
+fn number_of(symbol: u8) -> u8
+    ensures { λ r. ⌜ r ≡ number symbol ⌝ }
+{
+    if symbol == b'9' {
+        return 0;
+    }
+    if symbol == b'Z' {
+        return 1;
+    }
+    if symbol == b'*' {
+        return 2;
+    }
+    if symbol == b'S' {
+        return 3;
+    }
+    if symbol == b'+' {
+        return 4;
+    }
+    if symbol == b'-' {
+        return 5;
+    }
+    if symbol == b'$' {
+        return 6;
+    }
+    if symbol == b',' {
+        return 7;
+    }
+    if symbol == b'.' {
+        return 8;
+    }
+    if symbol == b'/' {
+        return 9;
+    }
+    if symbol == b'B' {
+        return 10;
+    }
+    11
+}
+
+fn is_of_kind(kind: u8, number: u8) -> bool
+    ensures { λ r. ⌜ r ≡ ofKind kind number ⌝ }
+{
+    if kind == 0 {
+        return false;
+    }
+    number == kind
+}
+
+fn role_of(kind: u8, met: bool, number: u8) -> u8
+    ensures { λ r. ⌜ r ≡ roleOf kind met number ⌝ }
+{
+    if is_of_kind(kind, number) {
+        if met {
+            return 1;
+        }
+        return 2;
+    }
+    number
+}
+
+// One position more, whose symbol has this number.
+fn with_number(placed: Placed, kind: u8, number: u8) -> Placed
+    requires { ⌜ (Whole (placed .roles)) × (placed .roles .count < 64) ⌝ }
+    ensures { λ r. ⌜ r ≡ placedIn placed kind number ⌝ }
+{
+    let role = role_of(kind, placed.met, number);
+    let mut roles = placed.roles;
+    let at = roles.count;
+    roles.at[at] = role;
+    roles.count = at + 1;
+    Placed {
+        roles,
+        met: placed.met | is_of_kind(kind, number),
+    }
+}
+
+// The credit or the debit mark stands at i and ends the picture.
+fn mark_at(picture: Picture, i: usize, end: usize) -> bool
+    requires { ⌜ (end ≡ length (heldIn picture)) × (end ≤ 64) × (i < end) ⌝ }
+    ensures { λ r. ⌜ r ≡ isMark (drop i (heldIn picture)) ⌝ }
+{
+    if end - i != 2 {
+        return false;
+    }
+    let credit = b"CR";
+    let debit = b"DB";
+    let a = picture.symbols[i];
+    let b = picture.symbols[i + 1];
+    if a == credit[0] {
+        return b == credit[1];
+    }
+    if a == debit[0] {
+        return b == debit[1];
+    }
+    false
+}
+
+// The roles of a picture of this kind.
+fn roles_of(picture: Picture, kind: u8) -> Roles
+    ensures { λ r. ⌜ r ≡ rolesRoom (rolesFrom kind (leb kind 2) (numbers (heldIn picture))) ⌝ }
+{
+    let end = held(picture);
+    let mut placed = Placed {
+        roles: Roles {
+            at: [0; 64],
+            count: 0,
+        },
+        met: kind <= 2,
+    };
+    let mut i = 0;
+    while i < end {
+        let symbol = picture.symbols[i];
+        if mark_at(picture, i, end) {
+            let first = mark_number(symbol);
+            let begun = with_number(placed, kind, first);
+            let done = with_number(begun, kind, first + 1);
+            return done.roles;
+        }
+        if symbol != b'V' {
+            placed = with_number(placed, kind, number_of(symbol));
+        }
+        i += 1;
+    }
+    placed.roles
+}
+
+// The number of a mark's first letter.
+fn mark_number(letter: u8) -> u8
+    ensures { λ r. ⌜ (r ≡ markNumber letter) × (r < 14) ⌝ }
+{
+    if letter == b'C' {
+        return 11;
+    }
+    13
+}
+
+// The form that a picture means.
+pub fn form_of(picture: Picture) -> Meaning
+    ensures { λ r. ⌜ r ≡ meaningOf (formOf (heldIn picture)) ⌝ }
+{
+    let found = suppression_in(picture);
+    let kind = found.kind;
+    let roles = roles_of(picture, kind);
+    let at = roles.at;
+    Meaning {
+        roles: at,
+        size: roles.count,
+        vee: vee_of(picture),
+        kind,
+    }
+}

@@ -1,0 +1,292 @@
+// From picture text to symbols: one walk over the bytes, whose state is what has been read of a factor.
+use rules::Mode;
+use rules::Picture;
+ghost use mathlib.Core.Path.{_≡_};
+ghost use mathlib.Core.List.{[]};
+ghost use Prim.Native.Nat.{_+_, _*_, _<_, _≤_};
+ghost use lib.ListN.{length, drop, replicate};
+ghost use Rattle.rules.specs.Text.{isSymbol, repeats, isDecimal, worth, allows, isPlain, isMark, next, copies, roomOf};
+ghost use Rattle.text.specs.Expansion.{expandedOf, filled, spelledOf};
+
+// What has been read of a text: the mode in which it ends, and the symbols that it has given. A count above 64 says how
+// many there would have been.
+pub struct Spelled {
+    pub mode: Mode,
+    pub picture: Picture,
+}
+
+// The symbols of a text, or the number of its refusal beside an empty picture.
+pub struct Expanded {
+    pub number: u8,
+    pub picture: Picture,
+}
+
+fn is_symbol(b: u8) -> bool
+    ensures { λ r. ⌜ r ≡ isSymbol b ⌝ }
+{
+    if b == b'9' {
+        return true;
+    }
+    if b == b'Z' {
+        return true;
+    }
+    if b == b'*' {
+        return true;
+    }
+    if b == b'V' {
+        return true;
+    }
+    if b == b',' {
+        return true;
+    }
+    if b == b'.' {
+        return true;
+    }
+    if b == b'/' {
+        return true;
+    }
+    if b == b'B' {
+        return true;
+    }
+    if b == b'S' {
+        return true;
+    }
+    if b == b'+' {
+        return true;
+    }
+    if b == b'-' {
+        return true;
+    }
+    if b == b'$' {
+        return true;
+    }
+    false
+}
+
+// What a factor may repeat.
+fn can_repeat(b: u8) -> bool
+    ensures { λ r. ⌜ r ≡ repeats b ⌝ }
+{
+    if b == b'V' {
+        return false;
+    }
+    is_symbol(b)
+}
+
+fn is_digit(b: u8) -> bool
+    ensures { λ r. ⌜ r ≡ isDecimal b ⌝ }
+{
+    if b < b'0' {
+        return false;
+    }
+    b <= b'9'
+}
+
+fn worth_of(b: u8) -> u8
+    ensures { λ r. ⌜ r ≡ worth b ⌝ }
+{
+    if b < b'0' {
+        return 0;
+    }
+    b - b'0'
+}
+
+// Two digits as one number.
+fn joined(tens: u8, b: u8) -> usize
+    ensures { λ r. ⌜ r ≡ tens * 10 + worth b ⌝ }
+{
+    tens as usize * 10 + worth_of(b) as usize
+}
+
+fn is_allowed(n: usize, b: u8) -> bool
+    ensures { λ r. ⌜ r ≡ allows n b ⌝ }
+{
+    if !can_repeat(b) {
+        return false;
+    }
+    if n < 1 {
+        return false;
+    }
+    n <= 64
+}
+
+// What has been read of a factor after one byte more.
+fn step(mode: Mode, b: u8) -> Mode
+    ensures { λ r. ⌜ r ≡ next mode b ⌝ }
+{
+    match mode {
+        Mode::Plain => {
+            if b == b'(' {
+                return Mode::Opened;
+            }
+            if is_symbol(b) {
+                return Mode::Plain;
+            }
+        }
+        Mode::Opened => {
+            if is_digit(b) {
+                return Mode::OneDigit(worth_of(b));
+            }
+        }
+        Mode::OneDigit(n) => {
+            if b == b')' {
+                return Mode::Closed(n as usize);
+            }
+            if is_digit(b) {
+                return Mode::TwoDigits(joined(n, b));
+            }
+        }
+        Mode::TwoDigits(n) => {
+            if b == b')' {
+                return Mode::Closed(n);
+            }
+        }
+        Mode::Closed(n) => {
+            if is_allowed(n, b) {
+                return Mode::Plain;
+            }
+        }
+        Mode::Spoilt => {}
+    }
+    Mode::Spoilt
+}
+
+// How many symbols the byte gives. A factor is judged where it is used, so this is at most 64.
+fn count_of(mode: Mode, b: u8) -> usize
+    ensures { λ r. ⌜ (r ≡ copies mode b) × (r ≤ 64) ⌝ }
+{
+    match mode {
+        Mode::Plain => {
+            if b == b'(' {
+                return 0;
+            }
+            1
+        }
+        Mode::Opened => 0,
+        Mode::OneDigit(_) => 0,
+        Mode::TwoDigits(_) => 0,
+        Mode::Closed(n) => {
+            if is_allowed(n, b) {
+                return n;
+            }
+            0
+        }
+        Mode::Spoilt => 0,
+    }
+}
+
+fn is_plain(mode: Mode) -> bool
+    ensures { λ r. ⌜ r ≡ isPlain mode ⌝ }
+{
+    match mode {
+        Mode::Plain => true,
+        Mode::Opened => false,
+        Mode::OneDigit(_) => false,
+        Mode::TwoDigits(_) => false,
+        Mode::Closed(_) => false,
+        Mode::Spoilt => false,
+    }
+}
+
+// The credit or the debit mark stands at i and ends the text.
+fn mark_at(text: &[u8], i: usize) -> bool
+    requires { ⌜ i < length (now text) ⌝ }
+    ensures { λ r. ⌜ r ≡ isMark (drop i (now (text .entry))) ⌝ }
+{
+    if text.len() - i != 2 {
+        return false;
+    }
+    let credit = b"CR";
+    let debit = b"DB";
+    let a = text[i];
+    let b = text[i + 1];
+    if a == credit[0] {
+        return b == credit[1];
+    }
+    if a == debit[0] {
+        return b == debit[1];
+    }
+    false
+}
+
+// n copies of b behind what the room holds; what falls outside is counted and dropped.
+fn put(picture: Picture, b: u8, n: usize) -> Picture
+    requires { ⌜ (picture .count < 65536) × (n ≤ 64) ⌝ }
+    ensures { λ r. ⌜ r ≡ filled picture (replicate n b) ⌝ }
+{
+    let at = picture.count;
+    let mut out = picture.symbols;
+    for k in 0..n {
+        let i = at + k;
+        if i < 64 {
+            out[i] = b;
+        }
+    }
+    Picture {
+        symbols: out,
+        count: at + n,
+    }
+}
+
+// The walk.
+fn spell(text: &[u8]) -> Spelled
+    requires { ⌜ length (now text) ≤ 128 ⌝ }
+    ensures { λ r. ⌜ r ≡ spelledOf (now (text .entry)) ⌝ }
+{
+    let mut mode = Mode::Plain;
+    let mut picture = Picture {
+        symbols: [0; 64],
+        count: 0,
+    };
+    let mut i = 0;
+    while i < text.len() {
+        let b = text[i];
+        if is_plain(mode) {
+            if mark_at(text, i) {
+                let first = put(picture, b, 1);
+                return Spelled {
+                    mode: Mode::Plain,
+                    picture: put(first, text[i + 1], 1),
+                };
+            }
+        }
+        picture = put(picture, b, count_of(mode, b));
+        mode = step(mode, b);
+        i += 1;
+    }
+    Spelled { mode, picture }
+}
+
+fn refused(number: u8) -> Expanded
+    ensures { λ r. ⌜ r ≡ record { number = number; picture = roomOf [] } ⌝ }
+{
+    Expanded {
+        number,
+        picture: Picture {
+            symbols: [0; 64],
+            count: 0,
+        },
+    }
+}
+
+// The symbols of a text in their room; or 1 for its length, 2 for a byte or factor anywhere in it, 3 for over 64 symbols.
+pub fn expand(text: &[u8]) -> Expanded
+    ensures { λ r. ⌜ r ≡ expandedOf (now (text .entry)) ⌝ }
+{
+    if text.len() < 1 {
+        return refused(1);
+    }
+    if 128 < text.len() {
+        return refused(1);
+    }
+    let spelled = spell(text);
+    let mode = spelled.mode;
+    if !is_plain(mode) {
+        return refused(2);
+    }
+    let picture = spelled.picture;
+    if 64 < picture.count {
+        return refused(3);
+    }
+    Expanded { number: 0, picture }
+}
