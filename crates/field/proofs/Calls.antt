@@ -1,0 +1,115 @@
+-- The public calls from their steps: digits made or shown, the stretch and the characters together are the field of that magnitude, and the
+-- ways out of editing and reading are the cases of their definitions. Assumes nothing.
+use mathlib.Core.Path.{_≡_, refl, ap}
+use mathlib.Core.Bool.{Bool, true, false, not, _&&_, and-false}
+use mathlib.Core.List.{List, [], _++_}
+use mathlib.Core.Option.{none, some}
+use Prim.Native.Nat.{ℕ, _+_, _-_, _^_, _<_, _≤_}
+use borrow.Author.Tests.{eq-eqb, le-leb, le-ltb, lt-leb, lt-ltb, ne-eqb}
+use native.Mathlib.Omega.{arith}
+use lib.Dec.{eqb, leb, ltb}
+use lib.ListN.{length, replicate}
+use Rattle.rules.specs.declared.Reading.the-variants.{Conversion}
+use Rattle.rules.specs.Words.{any, count, same}
+use Rattle.rules.specs.Search.{upTo}
+use Rattle.rules.specs.Digits.{Digits, digitsOf}
+use Rattle.rules.specs.Roles.{isDigit, isNine}
+use Rattle.rules.specs.Form.{Form, size}
+use Rattle.rules.specs.Shape.{digitCount, mostDigits}
+use Rattle.rules.specs.Edit.{allSuppressible, field, hasSign, isBlank}
+use Rattle.rules.specs.Candidate.{minusFits, readOf, readingOf, shown, signed, worthOf}
+use Rattle.rules.proofs.Lists.{count-split}
+use Rattle.rules.proofs.Digits.{digits-digits, ten-le}
+use Rattle.rules.proofs.Exact.{shown-small}
+use Rattle.decimal.specs.Digits.{digitRoom}
+use Rattle.decimal.specs.Sign.{joinedOf}
+use Rattle.field.specs.Results.{fieldRoom, readIn, roomOf}
+use Rattle.field.specs.Steps.{cellIn, shownRoom, stretchOf, surveyOf}
+use Rattle.field.proofs.Whole.{field-whole, padded, padded-digits, shown-digits, worth-digits}
+
+module _ (rs : List ℕ) (v : ℕ) where
+  -- the digits on both sides of V are all
+  pub survey-digits : surveyOf rs v .whole + surveyOf rs v .places ≡ count isDigit rs
+  unfolding surveyOf
+  survey-digits = count-split isDigit v rs
+
+-- Editing.
+module _ (d t : ℕ) (h : d ≤ mostDigits) where
+  room-at : digitRoom d t .at ≡ digitsOf d t ++ replicate (16 - d) 0
+  unfolding digitRoom
+  room-at = rw (le-leb d mostDigits h)
+
+  pub room-digits : Digits (digitRoom d t .at)
+  room-digits = rw room-at (padded-digits (digitsOf d t) (16 - d) (digits-digits d t))
+
+module _ (φ : Form) where
+  pub room-full : (negative : Bool) (t : ℕ) → size φ ≤ 64 → digitCount φ ≤ mostDigits
+      → roomOf (upTo (size φ) (cellIn (φ .roles) (φ .kind) (stretchOf φ (digitRoom (digitCount φ) t .at) (not (any isNine (φ .roles)) && eqb t 0)) (digitRoom (digitCount φ) t .at) negative))
+      ≡ fieldRoom φ negative t
+  unfolding fieldRoom isBlank allSuppressible
+  room-full negative t n d =
+      rw (le-leb (size φ) 64 n, le-leb (digitCount φ) mostDigits d)
+      (ap roomOf (field-whole φ (digitRoom (digitCount φ) t .at) negative t (λ j. rw (room-at (digitCount φ) t d) (padded (digitsOf (digitCount φ) t) (16 - digitCount φ) j))))
+
+  pub room-long : (negative : Bool) (t : ℕ) → 64 < size φ → roomOf [] ≡ fieldRoom φ negative t
+  unfolding fieldRoom
+  room-long negative t n = rw (lt-leb (size φ) 64 n)
+
+  pub room-many : (negative : Bool) (t : ℕ) → mostDigits < digitCount φ → roomOf [] ≡ fieldRoom φ negative t
+  unfolding fieldRoom
+  room-many negative t n = rw (lt-leb (digitCount φ) mostDigits n, and-false (leb (size φ) 64))
+
+-- Reading.
+module _ (φ : Form) (f : List ℕ) where
+  pub shown-room-digits : Digits (shownRoom (φ .roles) f .at)
+  unfolding shownRoom
+  shown-room-digits = padded-digits (shown φ f) (16 - length (shown φ f)) (shown-digits (φ .roles) f)
+
+  -- what is compared is the field of what the digits shown are worth
+  pub compared : (nine negative : Bool) → nine ≡ any isNine (φ .roles)
+      → upTo (size φ) (cellIn (φ .roles) (φ .kind) (stretchOf φ (shownRoom (φ .roles) f .at) (not nine && eqb (shownRoom (φ .roles) f .worth) 0)) (shownRoom (φ .roles) f .at) negative)
+      ≡ field φ negative (worthOf φ f)
+  unfolding shownRoom isBlank allSuppressible worthOf
+  compared nine negative e = rw e (field-whole φ _ negative (worthOf φ f) (λ j. rw (worth-digits φ f) (padded (shown φ f) (16 - length (shown φ f)) j)))
+
+  pub worth-is : shownRoom (φ .roles) f .worth ≡ worthOf φ f
+  unfolding shownRoom worthOf
+  worth-is = refl
+
+  pub worth-joined : (negative : Bool) → digitCount φ ≤ mostDigits → joinedOf negative (worthOf φ f) ≡ signed negative (worthOf φ f)
+  unfolding joinedOf worthOf
+  worth-joined negative d = rw (lt-ltb (worthOf φ f) (10 ^ mostDigits) (omega (arith, shown-small (φ .roles) f, ten-le (digitCount φ) mostDigits d)))
+
+  module _ (plus : same (field φ false (worthOf φ f)) f ≡ false) where
+    pub reads-zero : worthOf φ f ≡ 0 → readOf φ f ≡ none
+    unfolding readOf minusFits
+    reads-zero z = rw (plus, le-ltb 0 (worthOf φ f) (omega arith))
+
+    pub reads-unsigned : hasSign φ ≡ false → readOf φ f ≡ none
+    unfolding readOf minusFits
+    reads-unsigned s = rw (plus, s, and-false (ltb 0 (worthOf φ f)))
+
+    pub reads-other : same (field φ true (worthOf φ f)) f ≡ false → readOf φ f ≡ none
+    unfolding readOf
+    reads-other m = rw (plus, m, and-false (minusFits φ (worthOf φ f)))
+
+    pub reads-minus : (worthOf φ f ≡ 0 → ⊥) → hasSign φ ≡ true → same (field φ true (worthOf φ f)) f ≡ true → readOf φ f ≡ some (signed true (worthOf φ f))
+    unfolding readOf minusFits
+    reads-minus z s m = rw (plus, s, m, lt-ltb 0 (worthOf φ f) (omega arith))
+
+  pub reads-plus : same (field φ false (worthOf φ f)) f ≡ true → readOf φ f ≡ some (signed false (worthOf φ f))
+  unfolding readOf
+  reads-plus p = rw p
+
+  -- and where nothing is read
+  pub reads-long : (length f ≡ size φ → ⊥) → Conversion ≡ readIn φ f
+  unfolding readIn
+  reads-long n = rw (ne-eqb (length f) (size φ) n, and-false (leb (digitCount φ) mostDigits))
+
+  pub reads-many : mostDigits < digitCount φ → Conversion ≡ readIn φ f
+  unfolding readIn
+  reads-many n = rw (lt-leb (digitCount φ) mostDigits n)
+
+  pub reads-in : length f ≡ size φ → digitCount φ ≤ mostDigits → readingOf (readOf φ f) ≡ readIn φ f
+  unfolding readIn
+  reads-in n d = rw (eq-eqb (length f) (size φ) n, le-leb (digitCount φ) mostDigits d)

@@ -1,0 +1,28 @@
+-- `cell_of`: inside the stretch the drifting character or the fill, outside it the digit or the mark. Assumes nothing.
+use borrow.Author.Needs.{needs}
+use borrow.Author.Tests.{eq-eqb, ne-eqb}
+use mathlib.Core.Path.{sym, _∙_}
+use Rattle.rules.specs.Edit.{cell, digitChar, printed, suppressed}
+use Rattle.field.proofs.cells.cell_of.Statement.{statement}
+use Rattle.field.proofs.cells.cell_of.Tie as tie
+
+returns : tie.Need-returns
+unfolding cell
+returns c = rw (sym (c .before .before .before .before .is-inside .ensures) ∙ c .before .before .before .if1 .taken, eq-eqb _ _ (c .before .if2 .taken)) (c .mark-of .ensures)
+
+returns-2 : tie.Need-returns-2
+unfolding cell suppressed
+returns-2 c = rw (sym (c .before .before .before .before .is-inside .ensures) ∙ c .before .before .before .if1 .taken, ne-eqb _ _ (c .before .if2 .left)) (c .fill-of .ensures)
+
+returns-3 : tie.Need-returns-3
+unfolding cell printed digitChar
+returns-3 c = rw (sym (c .before .before .before .is-inside .ensures) ∙ c .before .before .if1 .left, sym (c .before .is-digit .ensures) ∙ c .if3 .taken)
+
+returns-4 : tie.Need-returns-4
+unfolding cell printed
+returns-4 c = rw (sym (c .before .before .before .before .is-inside .ensures) ∙ c .before .before .before .if1 .left, sym (c .before .before .is-digit .ensures) ∙ c .before .if3 .left) (c .mark-of2 .ensures)
+
+pub cell-of-spec : {M : Type 1} → statement M
+cell-of-spec =
+    tie.close
+    (tie.spec (λ c κs. search needs) (λ c κs. search needs) returns (λ c κs. search needs) returns-2 (λ c κs. search needs) (λ c. search needs) returns-3 (λ c κs. search needs) returns-4)

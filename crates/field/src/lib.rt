@@ -1,0 +1,110 @@
+// One field of one form: what a value's characters are, and which value a field shows. A form comes as its parts, the roles of
+// its positions, the number of positions before V, and the kind of suppression. Each call answers for every input.
+mod cells; // cells.rt: the characters of a field, written or compared
+mod marks; // marks.rt: roles and the characters that they show
+mod shown; // shown.rt: the digits that a field shows, and the value
+mod stretch; // stretch.rt: which positions are suppressed
+mod survey; // survey.rt: one pass over the roles
+
+use cells::put;
+use decimal::digits::digits;
+use marks::sign_drifts;
+use rules::Reading;
+use shown::value_in;
+use stretch::is_blank;
+use stretch::stretch_of;
+use survey::survey_of;
+ghost use mathlib.Core.Path.{_≡_};
+ghost use mathlib.Core.Bool.{_||_};
+ghost use mathlib.Core.List.{[]};
+ghost use Rattle.rules.specs.Roles.{driftsSign};
+ghost use Rattle.rules.specs.Form.{formed};
+ghost use Rattle.field.specs.Results.{measureOf, roomOf, fieldRoom, readIn};
+
+// More digits or positions than these no picture has, and the rooms have no place for them.
+const MOST_DIGITS: usize = 15;
+
+const MOST_POSITIONS: usize = 64;
+
+// The digits before and after V, and whether the form has a sign.
+pub struct Measured {
+    pub whole: usize,
+    pub places: usize,
+    pub signed: bool,
+}
+
+// The characters of a field with their count; unused places are 0.
+pub struct Field {
+    pub chars: [u8; 64],
+    pub count: usize,
+}
+
+// A sign stands at a position, or it drifts.
+fn has_sign(stands: bool, kind: u8) -> bool
+    ensures { λ r. ⌜ r ≡ (stands || driftsSign kind) ⌝ }
+{
+    if stands {
+        return true;
+    }
+    sign_drifts(kind)
+}
+
+fn empty() -> Field
+    ensures { λ r. ⌜ r ≡ roomOf [] ⌝ }
+{
+    Field {
+        chars: [0; 64],
+        count: 0,
+    }
+}
+
+pub fn measure(roles: &[u8], vee: usize, kind: u8) -> Measured
+    ensures { λ r. ⌜ r ≡ measureOf (formed (now (roles .entry)) vee kind) ⌝ }
+{
+    let seen = survey_of(roles, vee);
+    Measured {
+        whole: seen.whole,
+        places: seen.places,
+        signed: has_sign(seen.signed, kind),
+    }
+}
+
+// The field of a sign and a magnitude at the form's own scale; digits above the form's own are not shown. A form with more
+// positions or digits than a picture may have gives an empty room.
+pub fn edit(roles: &[u8], vee: usize, kind: u8, negative: bool, t: u64) -> Field
+    ensures { λ r. ⌜ r ≡ fieldRoom (formed (now (roles .entry)) vee kind) negative t ⌝ }
+{
+    if MOST_POSITIONS < roles.len() {
+        return empty();
+    }
+    let seen = survey_of(roles, vee);
+    let count = seen.whole + seen.places;
+    if MOST_DIGITS < count {
+        return empty();
+    }
+    let made = digits(t, count);
+    let ds = made.at;
+    let stretch = stretch_of(roles, vee, kind, &ds, is_blank(seen.nine, t));
+    put(roles, kind, stretch, &ds, negative)
+}
+
+// The one value that has this field, if any has. A field of another length has none.
+pub fn read(roles: &[u8], vee: usize, kind: u8, field: &[u8]) -> Reading
+    ensures { λ r. ⌜ r ≡ readIn (formed (now (roles .entry)) vee kind) (now (field .entry)) ⌝ }
+{
+    if field.len() != roles.len() {
+        return Reading::Conversion;
+    }
+    let seen = survey_of(roles, vee);
+    if MOST_DIGITS < seen.whole + seen.places {
+        return Reading::Conversion;
+    }
+    value_in(
+        roles,
+        vee,
+        kind,
+        field,
+        seen.nine,
+        has_sign(seen.signed, kind),
+    )
+}

@@ -1,0 +1,54 @@
+// One value against one form: whether it is in range and fits, and the sign and the T that its field shows.
+use decimal::align::align;
+use decimal::sign::split;
+use field::measure;
+ghost use mathlib.Core.Path.{_≡_};
+ghost use mathlib.Core.Bool.{false};
+ghost use Prim.Native.Nat.{_<_, _≤_};
+ghost use Rattle.rules.specs.Form.{formed};
+ghost use Rattle.value.specs.Settling.{settledOf};
+
+// Number 0 with the sign and T; or VALUE or SIZE, with plus and 0.
+pub struct Settled {
+    pub number: u8,
+    pub negative: bool,
+    pub t: u64,
+}
+
+fn refused(number: u8) -> Settled
+    ensures { λ r. ⌜ r ≡ record { number = number; negative = false; t = 0 } ⌝ }
+{
+    Settled {
+        number,
+        negative: false,
+        t: 0,
+    }
+}
+
+// M at scale q. The range is judged before the magnitude is taken, and SIZE before any product.
+pub fn settle(roles: &[u8], vee: usize, kind: u8, m: i64, q: usize) -> Settled
+    ensures { λ r. ⌜ r ≡ settledOf (formed (now (roles .entry)) vee kind) m q ⌝ }
+{
+    let parts = split(m);
+    if !parts.fits {
+        return refused(6);
+    }
+    if 15 < q {
+        return refused(6);
+    }
+    let measured = measure(roles, vee, kind);
+    let aligned = align(parts.magnitude, q, measured.whole, measured.places);
+    if !aligned.fits {
+        return refused(8);
+    }
+    let t = aligned.t;
+    let negative = parts.negative & (t != 0);
+    if negative & !measured.signed {
+        return refused(8);
+    }
+    Settled {
+        number: 0,
+        negative,
+        t,
+    }
+}
