@@ -1,0 +1,122 @@
+-- Editing by a form, at each way through it, and what its field leaves in the lent memory. Assumes nothing.
+use Prim.Native.Nat.{ℕ, suc, _+_, _^_, _<_, _≤_}
+use mathlib.Core.Path.{_≡_, refl, sym, ap, _∙_}
+use mathlib.Core.Bool.{Bool, true, false, cond, and-false}
+use mathlib.Core.List.{List, [], _∷_, _++_, append-assoc}
+use native.Mathlib.Numerals.{add-one}
+use native.Mathlib.Omega.{arith}
+use borrow.Author.Tests.{lt-leb, lt-ltb, le-ltb, le-leb, eq-eqb, ne-eqb, eqb-true}
+use lib.Dec.{leb, ltb, eqb}
+use lib.IntN.{ℤ, pos, natAbs}
+use lib.ListN.{length, getD, take, drop, set, length-take}
+use lib.Seq.{take-suc, drop-cons, set-at, take-append-seam}
+use Rattle.rules.specs.declared.Answer.{Answer}
+use Rattle.rules.specs.Numbers.{VALUE, SIZE, ROOM, when, unless, firstOf}
+use Rattle.rules.specs.Text.{mostSymbols}
+use Rattle.rules.specs.Form.{Form, size, meaning}
+use Rattle.rules.specs.Shape.{mostDigits, digitCount, verdict}
+use Rattle.rules.specs.Edit.{inRange, tooBig, aligned, isMinus, field, edited}
+use Rattle.rules.specs.Answers.{answer, lentAfter, editNumber, editAnswer, editMemory}
+use Rattle.rules.proofs.Logic.{by-test}
+use Rattle.rules.proofs.Firsts.{first-here, first-next, first-pass, first-stop, refuses, lent-kept}
+use Rattle.rules.proofs.Fields.{length-field}
+use Rattle.field.specs.declared.Field.{Field}
+use Rattle.field.specs.Results.{roomOf, fieldRoom}
+use Rattle.value.specs.declared.Settled.{Settled}
+use Rattle.value.specs.Settling.{settleNumber, settledOf}
+use Rattle.picture.specs.Calls.{Narrow, formNumber, formAnswer, formMemory}
+
+-- one character more
+pub copy-more : (cs d : List ℕ) (k : ℕ) → k < length cs → k < length d → set (take k cs ++ drop k d) k (getD cs k 0) ≡ take (k + 1) cs ++ drop (k + 1) d
+copy-more cs d k h l =
+    let e : length (take k cs) ≡ k = simp length-take (omega arith) in
+    rw (add-one, take-suc cs k 0 h, append-assoc, drop-cons d k 0 l, set-at (take k cs) (getD d k 0) (drop (suc k) d) (getD cs k 0) k e)
+
+module _ (φ : Form) (m : ℤ) (q : ℕ) (n : Narrow φ) (s : Settled) (e : s ≡ settledOf φ m q) where
+  abbrev settling : List ℕ
+  settling = unless (inRange m q) VALUE ∷ when (tooBig φ m q) SIZE ∷ []
+
+  settle-is : settleNumber φ m q ≡ firstOf settling
+  unfolding settleNumber
+  settle-is = rw (le-ltb mostDigits (digitCount φ) (n .digits))
+
+  number-is : s .number ≡ firstOf settling
+  unfolding settledOf
+  number-is = rw e (by-test (eqb (settleNumber φ m q) 0) (λ z. rw z (sym (eqb-true _ 0 z) ∙ settle-is)) (λ z. rw z settle-is))
+
+  module _ (out : List ℕ) where
+    form-number : formNumber φ m q (length out) ≡ firstOf (settling ++ (when (ltb (length out) (size φ)) ROOM ∷ []))
+    unfolding formNumber
+    form-number = refl
+
+    -- VALUE or SIZE
+    pub not-settled : (s .number ≡ 0 → ⊥)
+        → (record { number = s .number; field = 0; length = 0; value = pos 0 } ≡ formAnswer φ m q out) × (out ≡ formMemory φ m q out)
+    unfolding formAnswer formMemory
+    not-settled z =
+        let x : formNumber φ m q (length out) ≡ s .number = form-number ∙ first-stop settling _ (λ y. z (number-is ∙ y)) ∙ sym number-is in
+        (rw x (refuses (s .number) 0 (size φ) (pos 0) z), rw x (sym (lent-kept (s .number) (edited φ m q) out z)))
+
+    module _ (z : s .number ≡ 0) where
+      room-number : formNumber φ m q (length out) ≡ firstOf (when (ltb (length out) (size φ)) ROOM ∷ [])
+      room-number = form-number ∙ first-pass settling _ (sym number-is ∙ z)
+
+      pub no-room : length out < size φ → (record { number = 7; field = 0; length = 0; value = pos 0 } ≡ formAnswer φ m q out) × (out ≡ formMemory φ m q out)
+      unfolding formAnswer formMemory firstOf
+      no-room l = rw (room-number, lt-ltb (length out) (size φ) l) (refl, refl)
+
+      -- the sign and T are those of the value
+      minus-is : s .negative ≡ isMinus φ m q
+      unfolding settledOf
+      minus-is = rw (e, eq-eqb (settleNumber φ m q) 0 (settle-is ∙ sym number-is ∙ z))
+
+      t-is : s .t ≡ aligned φ m q
+      unfolding settledOf
+      t-is = rw (e, eq-eqb (settleNumber φ m q) 0 (settle-is ∙ sym number-is ∙ z))
+
+      module _ (f : Field) (g : f ≡ fieldRoom φ (s .negative) (s .t)) where
+        room-is : f ≡ roomOf (edited φ m q)
+        unfolding fieldRoom edited
+        room-is = rw (g, le-leb (size φ) mostSymbols (n .positions), le-leb (digitCount φ) mostDigits (n .digits), minus-is, t-is)
+
+        size-is : length (edited φ m q) ≡ size φ
+        unfolding edited
+        size-is = length-field φ _ _
+
+        pub count-is : f .count ≡ size φ
+        unfolding roomOf
+        count-is = ap (λ (x : Field). x .count) room-is ∙ size-is
+
+        chars-are : take (f .count) (f .chars) ≡ edited φ m q
+        unfolding roomOf
+        chars-are = rw room-is (take-append-seam (edited φ m q) _)
+
+        pub done : size φ ≤ length out → (after : List ℕ) → after ≡ take (f .count) (f .chars) ++ drop (f .count) out
+            → (record { number = 0; field = 0; length = size φ; value = pos 0 } ≡ formAnswer φ m q out) × (after ≡ formMemory φ m q out)
+        unfolding formAnswer formMemory firstOf
+        done l after x =
+            rw (room-number, le-ltb (length out) (size φ) l) (refl, x ∙ rw (chars-are, count-is, size-is))
+
+-- By a text: the picture's own refusals first.
+module _ (t : List ℕ) (m : ℤ) (q : ℕ) (out : List ℕ) (n : ℕ) (e : n ≡ verdict t) where
+  pub text-refused : (n ≡ 0 → ⊥) → (record { number = n; field = 0; length = 0; value = pos 0 } ≡ editAnswer t m q out) × (out ≡ editMemory t m q out)
+  unfolding editAnswer editMemory editNumber
+  text-refused z =
+      let x : editNumber t m q (length out) ≡ n = first-here (verdict t) _ (λ y. z (e ∙ y)) ∙ sym e in
+      (rw x (refuses n 0 (size (meaning t)) (pos 0) z), rw x (sym (lent-kept n (edited (meaning t) m q) out z)))
+
+  module _ (z : n ≡ 0) where
+    number-behind : editNumber t m q (length out) ≡ formNumber (meaning t) m q (length out)
+    unfolding editNumber formNumber
+    number-behind = first-next (verdict t) _ (sym e ∙ z)
+
+    -- the scale is out of range
+    pub scale-refused : mostDigits < q → (record { number = 6; field = 0; length = 0; value = pos 0 } ≡ editAnswer t m q out) × (out ≡ editMemory t m q out)
+    unfolding editAnswer editMemory formNumber inRange firstOf
+    scale-refused l = rw (number-behind, lt-leb q mostDigits l, and-false (ltb (natAbs m) (10 ^ mostDigits))) (refl, refl)
+
+    -- all else is the form's
+    pub by-form : (φ : Form) → φ ≡ meaning t → (r : Answer) (after : List ℕ) → r ≡ formAnswer φ m q out → after ≡ formMemory φ m q out
+        → (r ≡ editAnswer t m q out) × (after ≡ editMemory t m q out)
+    unfolding editAnswer editMemory formAnswer formMemory
+    by-form φ p r after x y = (x ∙ rw (p, number-behind), y ∙ rw (p, number-behind))

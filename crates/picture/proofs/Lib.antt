@@ -1,0 +1,4 @@
+pub mod Held
+pub mod Judging
+pub mod EditWays
+pub mod ReadWays

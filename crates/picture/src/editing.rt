@@ -1,0 +1,64 @@
+// A value as the field of a picture. The field is built in a room of its own and copied out once every refusal is settled.
+use super::refused;
+use field::Field;
+use form::form_of;
+use rules::Answer;
+use rules::Picture;
+use value::settle;
+ghost use mathlib.Core.Path.{_≡_};
+ghost use mathlib.Core.Bool.{true};
+ghost use mathlib.Core.List.{_++_};
+ghost use Prim.Native.Nat.{_≤_};
+ghost use lib.ListN.{length, take, drop};
+ghost use Rattle.rules.specs.Text.{heldIn};
+ghost use Rattle.rules.specs.Form.{formed, formOf};
+ghost use Rattle.rules.specs.Good.{good};
+ghost use Rattle.picture.specs.Calls.{Narrow, formAnswer, formMemory};
+
+// The characters of the field into the first bytes of `out`.
+fn copy_out(field: Field, out: &mut [u8])
+    requires { ⌜ (field .count ≤ 64) × (field .count ≤ length (now out)) ⌝ }
+    ensures { λ _. ⌜ now (out .exit) ≡ take (field .count) (field .chars) ++ drop (field .count) (now (out .entry)) ⌝ }
+{
+    let chars = field.chars;
+    let count = field.count;
+    for k in 0..count {
+        out[k] = chars[k];
+    }
+}
+
+// By a form: VALUE, SIZE, ROOM.
+fn edit_form(roles: &[u8], vee: usize, kind: u8, m: i64, q: usize, out: &mut [u8]) -> Answer
+    requires { ⌜ Narrow (formed (now roles) vee kind) ⌝ }
+    ensures answer { λ r. ⌜ r ≡ formAnswer (formed (now (roles .entry)) vee kind) m q (now (out .entry)) ⌝ }
+    ensures memory { λ _. ⌜ now (out .exit) ≡ formMemory (formed (now (roles .entry)) vee kind) m q (now (out .entry)) ⌝ }
+{
+    let settled = settle(roles, vee, kind, m, q);
+    let number = settled.number;
+    if number != 0 {
+        return refused(number);
+    }
+    if out.len() < roles.len() {
+        return refused(7);
+    }
+    let field = field::edit(roles, vee, kind, settled.negative, settled.t);
+    copy_out(field, out);
+    Answer {
+        number: 0,
+        field: 0,
+        length: roles.len(),
+        value: 0,
+    }
+}
+
+// By an accepted picture.
+pub(crate) fn edit_picture(picture: Picture, m: i64, q: usize, out: &mut [u8]) -> Answer
+    requires { ⌜ good (formOf (heldIn picture)) ≡ true ⌝ }
+    ensures answer { λ r. ⌜ r ≡ formAnswer (formOf (heldIn picture)) m q (now (out .entry)) ⌝ }
+    ensures memory { λ _. ⌜ now (out .exit) ≡ formMemory (formOf (heldIn picture)) m q (now (out .entry)) ⌝ }
+{
+    let form = form_of(picture);
+    let roles = form.roles;
+    let size = form.size;
+    edit_form(&roles[0..size], form.vee, form.kind, m, q, out)
+}
