@@ -1,0 +1,5 @@
+pub mod Ends
+pub mod Measures
+pub mod Bytes
+pub mod Puts
+pub mod Ways
