@@ -1,0 +1,4 @@
+pub mod Values
+pub mod Judging
+pub mod Writing
+pub mod Ways

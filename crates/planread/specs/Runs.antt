@@ -1,0 +1,36 @@
+-- Not 01's words: what a run over the fields of a record hands back, by what each field says, and the outcome that follows. The public call is
+-- held to 01's own relation instead. Assumes nothing.
+use Prim.Native.Nat.{ℕ, _+_}
+use mathlib.Core.Path.{_≡_}
+use mathlib.Core.Bool.{true}
+use mathlib.Core.List.{List, [], _∷_}
+use mathlib.Core.Option.{Option, none, some}
+use lib.IntN.{ℤ, pos}
+use lib.ListN.{length, set, replicate}
+use Rattle.rules.specs.declared.Answer.{Answer}
+use Rattle.rules.specs.Layout.{mostPictures, recordLength}
+use Rattle.rules.specs.Answers.{recordAnswer, rowAfter}
+use Rattle.rules.specs.PlanBytes.{formsIn, isPlan}
+use Rattle.rules.specs.Candidate.{readAll}
+use Rattle.planread.specs.declared.run.Ran.{Ran}
+
+-- a plan, and a record of its length
+pub record Due (b rec : List ℕ) : Type 0 where
+  pub plan : isPlan b ≡ true
+  pub length : length rec ≡ recordLength (formsIn b)
+
+-- from field i on, with what the fields before it say in `values`: each value goes to its place, up to a field that says nothing
+unfoldable pub ranFrom : ℕ → List ℤ → List (Option ℤ) → Ran
+ranFrom i values [] = record { bad = 0; values = values }
+ranFrom i values (none ∷ os) = record { bad = i + 1; values = values }
+ranFrom i values (some m ∷ os) = ranFrom (i + 1) (set values i m) os
+
+unfoldable pub ranOf : List (Option ℤ) → Ran
+ranOf os = ranFrom 0 (replicate mostPictures (pos 0)) os
+
+-- the candidate's outcome by bytes that are a plan: the answer, and the row
+unfoldable pub planAnswer : List ℕ → List ℕ → List ℤ → Answer
+planAnswer b rec row = recordAnswer (formsIn b) rec (length row) (readAll (formsIn b) rec)
+
+unfoldable pub planRow : List ℕ → List ℕ → List ℤ → List ℤ
+planRow b rec row = rowAfter (formsIn b) rec row (readAll (formsIn b) rec)
