@@ -1,0 +1,155 @@
+/*
+ * Morvenka for C: the edited picture fields of mainframe files, checked, written and read, one at a time or a record at a time.
+ *
+ * This header is all that a C program needs to know. The archive is x86-64 code and needs the C library alone:
+ *
+ *     rt staticlib collector
+ *     gcc -std=c11 -Iinclude program.c target/staticlib/libcollector.a -o program
+ *
+ * WORDS
+ *   picture  an ASCII text of 1 to 128 bytes, such as ZZ9V.99 or $$,$$9 or (3)9CR. It has no zero byte at its end.
+ *   n        the characters of the picture's field, 1 to 64: its symbols other than V, with the factors written out.
+ *   f        the scale of the field: the number of its digits after V, 0 without V.
+ *   value    a whole number M and a scale q, worth M / 10^q. M lies strictly between -10^15 and 10^15, q is 0 to 15.
+ *   layout   1 to 32 pictures, each ended by a semicolon, at most 4,128 bytes: ZZ9V.99;-9;
+ *   record   the fields of a layout, one after another with nothing between: at most 2,048 characters.
+ *   plan     a layout compiled: plain bytes to be used for any number of records, and to be kept or sent as they are.
+ *   row      one number a field, in eight bytes, little-endian, two's complement: the M of the field's value at its own f.
+ *            On x86-64 an array of int64_t is such a row: pass its address as a uint8_t * and its size in bytes.
+ *
+ * RUNS OF BYTES
+ *   Each run is a pointer and then its length in bytes. The const runs are read and never written.
+ *   The run without const is lent: on success the first bytes that the answer needs are written and every byte beyond them keeps
+ *   its content, so it may be longer than needed. A refusal changes no byte of it.
+ *   The runs of one call must not overlap. A run of length 0 may have any pointer, also a null one: nothing is read or written
+ *   there. Every other run is memory of that length.
+ *   The library keeps nothing between calls and allocates nothing. It may be called from several threads at once, as long as none
+ *   of them writes to memory that another has passed to a call still running.
+ *
+ * ANSWERS
+ *   Each call answers one number: number + 256 * field + 65,536 * length. The three functions below take it apart.
+ *   Success: number 0, field 0, and the length that is stated at the call.
+ *   Refusal: the number of the first reason in the order stated at the call, and length 0. The field is 0, except that the calls
+ *   on layouts and plans give the first bad field, counted from 1, with the numbers 1 to 6, 8 and 10.
+ *
+ * EXAMPLE
+ *     const char layout[] = "ZZ9V.99;-9;", record[] = " 12.34-7";
+ *     uint8_t plan[MORVENKA_PLAN_MAX];
+ *     int64_t row[2];
+ *     uint64_t answer = morvenka_compile((const uint8_t *)layout, sizeof layout - 1, plan, sizeof plan);
+ *     if (morvenka_number(answer) == MORVENKA_OK)
+ *         answer = morvenka_plan_read(plan, morvenka_length(answer), (const uint8_t *)record, sizeof record - 1,
+ *                                     (uint8_t *)row, sizeof row);
+ *   Then the answer has the number 0 and the length 2, and the row is {1234, -7}: 12.34 and -7.
+ */
+#ifndef MORVENKA_H
+#define MORVENKA_H
+
+#include <stddef.h>
+#include <stdint.h>
+
+#ifdef __cplusplus
+extern "C" {
+#endif
+
+/* The numbers that come back. */
+enum morvenka_numbers {
+    MORVENKA_OK = 0,          /* success */
+    MORVENKA_TEXT = 1,        /* the picture has 0 or over 128 bytes */
+    MORVENKA_SYMBOL = 2,      /* the picture has a byte or a factor that isn't allowed */
+    MORVENKA_LONG = 3,        /* the picture has over 64 symbols, V counted, with the factors written out */
+    MORVENKA_SHAPE = 4,       /* the picture's symbols don't stand together like this */
+    MORVENKA_DIGITS = 5,      /* the picture has no digit, or over 15 */
+    MORVENKA_VALUE = 6,       /* M is not strictly between -10^15 and 10^15, or q is over 15 */
+    MORVENKA_ROOM = 7,        /* the lent run is shorter than needed */
+    MORVENKA_SIZE = 8,        /* too large for the digits before V; or negative, not cut to zero, with no sign in the picture */
+    MORVENKA_LENGTH = 9,      /* the field or record has another length; for editing, the row has not eight bytes a field */
+    MORVENKA_CONVERSION = 10, /* no value has this field */
+    MORVENKA_COUNT = 11,      /* the layout is empty, over 4,128 bytes, not ended by a semicolon, or over 32 pictures */
+    MORVENKA_PLAN = 12,       /* these bytes are not the plan of any accepted layout */
+    MORVENKA_INPUT = 13       /* the record lister's input is over 65,536 bytes; no call below gives it */
+};
+
+/* Sizes in bytes that suffice for anything accepted. */
+enum morvenka_sizes {
+    MORVENKA_FIELD_MAX = 64,
+    MORVENKA_RECORD_MAX = 2048,
+    MORVENKA_PLAN_MAX = 1 + 3 * 32 + 2 + 2048,
+    MORVENKA_ROW_MAX = 8 * 32
+};
+
+static inline unsigned morvenka_number(uint64_t answer)
+{
+    return (unsigned)(answer % 256);
+}
+
+static inline unsigned morvenka_field(uint64_t answer)
+{
+    return (unsigned)(answer / 256 % 256);
+}
+
+static inline size_t morvenka_length(uint64_t answer)
+{
+    return (size_t)(answer / 65536);
+}
+
+/* Layouts and plans */
+
+/*
+ * Compiles a layout into the first bytes of plan.
+ * Success: the length is the number of the plan's bytes, at most MORVENKA_PLAN_MAX.
+ * Refusals in order: COUNT; then the first bad picture, with its field and its own first reason of TEXT, SYMBOL, LONG, SHAPE,
+ * DIGITS; ROOM.
+ */
+uint64_t morvenka_compile(const uint8_t *layout, size_t layout_len, uint8_t *plan, size_t plan_len);
+
+/*
+ * Reads a record by a plan into the first places of row, eight bytes a field. plan_len is the plan's own length, as compiling
+ * answered it, and not that of a longer run it stands in.
+ * Success: the length is the number of fields, so 8 * length bytes are written.
+ * Refusals in order: PLAN; LENGTH, of the record; ROOM, if the row has fewer than eight bytes a field; CONVERSION, with the first
+ * such field.
+ */
+uint64_t morvenka_plan_read(const uint8_t *plan, size_t plan_len, const uint8_t *record, size_t record_len,
+                            uint8_t *row, size_t row_len);
+
+/*
+ * Edits a row by a plan into the first bytes of record. The row must have exactly eight bytes a field.
+ * Success: the length is the number of the record's characters, at most MORVENKA_RECORD_MAX.
+ * Refusals in order: PLAN; LENGTH, of the row; then the first field with VALUE or SIZE, VALUE before SIZE; ROOM.
+ */
+uint64_t morvenka_plan_edit(const uint8_t *plan, size_t plan_len, const uint8_t *row, size_t row_len,
+                            uint8_t *record, size_t record_len);
+
+/* One picture */
+
+/*
+ * Checks a picture.
+ * Success: the length is n.
+ * Refusals in order: TEXT, SYMBOL, LONG, SHAPE, DIGITS. Below they are called the picture's own.
+ */
+uint64_t morvenka_check(const uint8_t *text, size_t text_len);
+
+/*
+ * Edits the value M at scale q by a picture into the first bytes of out. Digits beyond the picture's scale f are cut off, and
+ * what the cut leaves zero is plus.
+ * Success: the length is n, the characters written, at most MORVENKA_FIELD_MAX.
+ * Refusals in order: the picture's own; VALUE; SIZE; ROOM.
+ */
+uint64_t morvenka_edit(const uint8_t *text, size_t text_len, int64_t m, uint64_t q, uint8_t *out, size_t out_len);
+
+/*
+ * Reads a field by its picture; its M, at the picture's scale f, goes into the first eight bytes of row.
+ * A field is accepted exactly when some value edits to it, and that value is the only one: a blank is never a 9.
+ * Success: the length is 1.
+ * Refusals in order: the picture's own; LENGTH, if the field has not n characters; ROOM, if the row has fewer than eight bytes;
+ * CONVERSION.
+ */
+uint64_t morvenka_read(const uint8_t *text, size_t text_len, const uint8_t *field, size_t field_len,
+                       uint8_t *row, size_t row_len);
+
+#ifdef __cplusplus
+}
+#endif
+
+#endif
