@@ -1,0 +1,10 @@
+pub mod Numerals
+pub mod Signs
+pub mod Writing
+pub mod Commas
+pub mod Values
+pub mod Texts
+pub mod Layouts
+pub mod Records
+pub mod Splitting
+pub mod Keeping
