@@ -7,12 +7,15 @@ use mathlib.Core.List.{List, [], _∷_, map}
 use mathlib.Core.Option.{Option}
 use lib.IntN.{ℤ, pos}
 use lib.ListN.{length}
-use Rattle.rules.specs.Numbers.{PLAN}
-use Rattle.rules.specs.Form.{Form}
+use Rattle.rules.specs.Numbers.{PLAN, firstOf}
+use Rattle.rules.specs.Form.{Form, meaning}
+use Rattle.rules.specs.Shape.{verdict}
 use Rattle.rules.specs.Layout.{forms}
 use Rattle.rules.specs.Answers.{answer, lentAfter, unread, said, numberOver, readBefore, recordAnswer, ByPlan, no-plan, as-layout}
 use Rattle.rules.specs.PlanBytes.{allGood}
-use Rattle.rules.specs.Collector.{packed, rowBytes}
+use Rattle.rules.specs.Collector.{packed, rowBytes, bytesOf, readRunNumber, ReadRunIs}
+use Rattle.rules.proofs.Exact.{reads-one}
+use Rattle.rules.proofs.Forms.{accepted-good, good-parts}
 use Rattle.rules.proofs.Plans.{forms-good, layout-one}
 use Rattle.rules.proofs.Outcomes.{record-reads-one}
 use Rattle.collector.specs.PlanRuns.{placesIn, RecordRunIs, PlanReadRunIs, RowRunIs, PlanEditRunIs}
@@ -43,3 +46,24 @@ row-run-one run out φs h r s x y a b = (a .gives ∙ sym (b .gives), a .leaves 
 
 pub plan-edit-run-one : (b run out : List ℕ) (r s : ℕ) (x y : List ℕ) → PlanEditRunIs b run out r x → PlanEditRunIs b run out s y → (r ≡ s) × (x ≡ y)
 plan-edit-run-one b run out = run-one b out (λ φs r x. RowRunIs φs run out r x) (row-run-one run out)
+
+-- By a picture: a refused text leaves no say to what the field says.
+abbrev ReadAnswer : List ℕ → List ℕ → List ℕ → Option ℤ → ℕ
+ReadAnswer t f run o = packed (answer (readRunNumber t f (length run) o) 0 1 (said o))
+
+abbrev ReadRun : List ℕ → List ℕ → List ℕ → Option ℤ → List ℕ
+ReadRun t f run o = lentAfter (readRunNumber t f (length run) o) (bytesOf (said o)) run
+
+same-refusal : (t f run : List ℕ) (o p : Option ℤ) (v : ℕ) → verdict t ≡ suc v → (ReadAnswer t f run o ≡ ReadAnswer t f run p) × (ReadRun t f run o ≡ ReadRun t f run p)
+unfolding readRunNumber firstOf
+same-refusal t f run o p v e = (rw e, rw e)
+
+pub read-run-one : (t f run : List ℕ) (r s : ℕ) (x y : List ℕ) → ReadRunIs t f run r x → ReadRunIs t f run s y → (r ≡ s) × (x ≡ y)
+read-run-one t f run r s x y a b =
+    let w = at (verdict t) refl in (a .gives ∙ w .0 ∙ sym (b .gives), a .leaves ∙ w .1 ∙ sym (b .leaves))
+  where
+    at : (v : ℕ) → verdict t ≡ v → (ReadAnswer t f run (a .says) ≡ ReadAnswer t f run (b .says)) × (ReadRun t f run (a .says) ≡ ReadRun t f run (b .says))
+    at zero e =
+        let o = reads-one (meaning t) (good-parts (meaning t) (accepted-good t e)) f (a .says) (b .says) (a .reads e) (b .reads e) in
+        (ap (ReadAnswer t f run) o, ap (ReadRun t f run) o)
+    at (suc v) e = same-refusal t f run (a .says) (b .says) v e
