@@ -24,7 +24,7 @@ use Rattle.text.specs.Expansion.{expandNumber, expandedOf}
 use Rattle.text.specs.declared.Expanded.{Expanded}
 use Rattle.shape.specs.declared.Judged.{Judged}
 use Rattle.shape.specs.Judge.{judgedOf}
-use Rattle.shape.proofs.OnePass.{judged-shaped, judged-digits}
+use Rattle.shape.proofs.Verdict.{judged-shaped, judged-digits}
 use Rattle.picture.specs.Verdicts.{shapeNumber, verdictOf}
 use Rattle.picture.specs.declared.verdict.Verdict.{Verdict}
 use Rattle.picture.proofs.Held.{room-held}

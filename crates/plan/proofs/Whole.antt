@@ -2,11 +2,12 @@
 -- counts and lengths agree. Assumes nothing.
 use Prim.Native.Nat.{ℕ, zero, suc, _+_, _-_, _*_, _/_, _%_, _<_, _≤_}
 use mathlib.Core.Path.{_≡_, refl, sym, ap, _∙_}
-use mathlib.Core.Bool.{Bool, false, and-true}
+use mathlib.Core.Bool.{Bool, false, _&&_, and-true}
 use mathlib.Core.List.{List, [], _∷_, _++_}
 use native.Mathlib.Nat.{sub-zero, mod-lt, div-add-mod'}
 use native.Mathlib.Omega.{arith}
-use borrow.Author.Tests.{le-leb}
+use borrow.Author.Tests.{eqb-true, eqb-false, le-leb}
+use lib.Dec.{eqb}
 use lib.ListN.{length, getD, take, drop, length-append, length-take, length-drop, take-append-drop}
 use lib.Seq.{drop-cons, drop-drop, getD-append-add, take-add, take-all}
 use Rattle.rules.specs.Form.{Form}
@@ -16,7 +17,7 @@ use Rattle.rules.proofs.Lists.{eq-same}
 use Rattle.rules.proofs.Logic.{by-test}
 use Rattle.rules.proofs.Plans.{length-positions, plan-length}
 use Rattle.rules.proofs.PlanWalk.{PlanParts, count-forms-in, fieldCount, forms-count, plan-parts}
-use Rattle.plan.specs.Widths.{TwoBytes, widths, widthsAt}
+use Rattle.plan.specs.Widths.{TwoBytes, fillsBytes, widths, widthsAt}
 use Rattle.plan.proofs.Sums.{plan-widths}
 
 -- What is read off comes back: the headers where each part is as long as its n, the positions always.
@@ -125,21 +126,24 @@ module _ (b : List ℕ) where
   pub no-headers : length b < 3 * fieldCount b + 3 → false ≡ isPlan b
   no-headers l = refused (λ p. omega (arith, p .size))
 
-  module _ (size : ℕ) (e : size ≡ widthsAt b 0) where
-    pub other-length : (3 * fieldCount b + 3 + size ≡ length b → ⊥) → false ≡ isPlan b
-    other-length n = refused (λ p. n (omega (arith, p .size, plan-widths b p)))
+  module _ (n : ℕ) (t : TwoBytes b (3 * fieldCount b + 3 - 2) n) where
+    count-at : TwoBytes b (3 * fieldCount b + 1) n
+    count-at = let k : 3 * fieldCount b + 3 - 2 ≡ 3 * fieldCount b + 1 = omega arith in rw k at t
 
-    module _ (n : ℕ) (t : TwoBytes b (3 * fieldCount b + 3 - 2) n) where
-      count-at : TwoBytes b (3 * fieldCount b + 1) n
-      count-at = let k : 3 * fieldCount b + 3 - 2 ≡ 3 * fieldCount b + 1 = omega arith in rw k at t
+    pub other-length : (3 * fieldCount b + 3 + n ≡ length b → ⊥) → false ≡ isPlan b
+    other-length d = refused (λ p. d (omega (arith, p .size, plan-widths b p, count-at .number ∙ sym (plan-counted b p))))
 
-      pub other-count : (n ≡ size → ⊥) → false ≡ isPlan b
-      other-count d = refused (λ p. d (count-at .number ∙ sym (plan-counted b p) ∙ sym e))
-
-      pub by-forms : n ≡ size → 1 ≤ fieldCount b → fieldCount b ≤ mostPictures → 3 * fieldCount b + 3 + size ≡ length b
-          → (r : Bool) → r ≡ allGood (formsIn b) → r ≡ isPlan b
-      unfolding isPlan
-      by-forms d l m s r q =
-          let a : Agrees b = record { size = omega arith; counted = rw (← (d ∙ e)) count-at } in
-          let z = eq-same b (planOf (formsIn b)) (gives-again b a) in
-          rw (count-forms-in b, le-leb 1 (fieldCount b) l, le-leb (fieldCount b) mostPictures m, z) (q ∙ sym (and-true (allGood (formsIn b))))
+    pub by-forms : 3 * fieldCount b + 3 + n ≡ length b → 1 ≤ fieldCount b → fieldCount b ≤ mostPictures
+        → (r : Bool) → r ≡ (fillsBytes b && allGood (formsIn b)) → r ≡ isPlan b
+    unfolding fillsBytes isPlan
+    by-forms s l m r q =
+        by-test (eqb (3 * fieldCount b + 3 + widthsAt b 0) (length b))
+        (λ f.
+        let w = eqb-true (3 * fieldCount b + 3 + widthsAt b 0) (length b) f in
+        let d : n ≡ widthsAt b 0 = omega arith in
+        let a : Agrees b = record { size = omega arith; counted = rw (← d) count-at } in
+        let z = eq-same b (planOf (formsIn b)) (gives-again b a) in
+        rw (count-forms-in b, le-leb 1 (fieldCount b) l, le-leb (fieldCount b) mostPictures m, z) (rw f at q ∙ sym (and-true (allGood (formsIn b)))))
+        (λ f.
+        let w = eqb-false (3 * fieldCount b + 3 + widthsAt b 0) (length b) f in
+        rw f at q ∙ refused (λ p. w (omega (arith, p .size, plan-widths b p))))

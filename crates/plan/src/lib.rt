@@ -1,40 +1,38 @@
-// Which bytes are a plan: the counts and lengths first, then each field's form by its part of the positions. Nothing is compiled again.
-use shape::is_good;
+// Which bytes are a plan: the counts first, then each field's form by its part of the positions. Nothing is compiled again.
+use shape::is_good_by;
+use shape::tables::next_table;
+use shape::tables::weight_table;
 ghost use mathlib.Core.Path.{_≡_};
+ghost use mathlib.Core.Bool.{_&&_};
 ghost use Prim.Native.Nat.{_+_, _*_, _<_, _≤_};
 ghost use lib.ListN.{length};
 ghost use Rattle.rules.specs.PlanBytes.{allGood, formsIn, isPlan};
 ghost use Rattle.rules.proofs.PlanWalk.{fieldCount};
-ghost use Rattle.plan.specs.Widths.{TwoBytes, widthsAt};
+ghost use Rattle.shape.specs.Machine.{machine, weights};
+ghost use Rattle.plan.specs.Widths.{TwoBytes, fillsBytes};
 
 const MOST_FIELDS: usize = 32;
 
-// The sum of the n of `count` fields.
-fn measured(bytes: &[u8], count: usize) -> usize
-    requires { ⌜ (count ≡ fieldCount (now bytes)) × (count ≤ 32) × (3 * count + 3 ≤ length (now bytes)) ⌝ }
-    ensures { λ r. ⌜ (r ≡ widthsAt (now (bytes .entry)) 0) × (r ≤ 255 * count) ⌝ }
-{
-    let mut sum: usize = 0;
-    for i in 0..count {
-        sum += bytes[1 + 3 * i] as usize;
-    }
-    sum
-}
-
-// Whether each field has the form of some accepted picture.
-fn all_good(bytes: &[u8], count: usize) -> bool
-    requires { ⌜ (count ≡ fieldCount (now bytes)) × (count ≤ 32) × (3 * count + 3 + widthsAt (now bytes) 0 ≡ length (now bytes)) ⌝ }
-    ensures { λ r. ⌜ r ≡ allGood (formsIn (now (bytes .entry))) ⌝ }
+// Whether each field has the form of some accepted picture, by the judge's tables, and their positions are all that is left.
+fn all_good(next: &[u8; 272], weight: &[u32; 16], bytes: &[u8], count: usize) -> bool
+    requires { ⌜ (count ≡ fieldCount (now bytes)) × (count ≤ 32) × (3 * count + 3 ≤ length (now bytes)) × (now next ≡ machine) × (now weight ≡ weights) ⌝ }
+    ensures { λ r. ⌜ r ≡ (fillsBytes (now (bytes .entry)) && allGood (formsIn (now (bytes .entry)))) ⌝ }
 {
     let mut at = 3 * count + 3;
     for i in 0..count {
-        let end = at + bytes[1 + 3 * i] as usize;
-        if !is_good(&bytes[at..end], bytes[2 + 3 * i] as usize, bytes[3 + 3 * i]) {
+        let n = bytes[1 + 3 * i] as usize;
+        let vee = bytes[2 + 3 * i] as usize;
+        let kind = bytes[3 + 3 * i];
+        if bytes.len() - at < n {
+            return false;
+        }
+        let end = at + n;
+        if !is_good_by(next, weight, &bytes[at..end], vee, kind) {
             return false;
         }
         at = end;
     }
-    true
+    at == bytes.len()
 }
 
 // The number in the two bytes at `at`, high byte first.
@@ -65,12 +63,10 @@ pub fn is_plan(bytes: &[u8]) -> bool
     if bytes.len() < start {
         return false;
     }
-    let size = measured(bytes, count);
-    if start + size != bytes.len() {
+    if two_bytes(bytes, start - 2) != bytes.len() - start {
         return false;
     }
-    if two_bytes(bytes, start - 2) != size {
-        return false;
-    }
-    all_good(bytes, count)
+    let next = next_table();
+    let weight = weight_table();
+    all_good(&next, &weight, bytes, count)
 }

@@ -1,41 +1,31 @@
 // The rules of shape, judged in one pass over the roles of a form: of a picture whether its shape is right and its digits fit, of a
-// plan's field whether any accepted picture has it. The rules themselves are those of the crate rules.
-ghost use Prim.Native.Nat.{_+_, _-_, _<_, _≤_};
+// plan's field whether any accepted picture has it. The rules themselves are those of the crate rules. The pass is a machine, whose
+// phase holds what the next roles ask of those before, and a sum of weights, which holds what the rules count.
+pub mod tables; // tables.rt: the machine and the weights
+
+use tables::next_table;
+use tables::weight_table;
+ghost use Prim.Native.Nat.{_+_, _*_, _<_, _≤_, min};
 ghost use mathlib.Core.Path.{_≡_};
 ghost use lib.ListN.{length};
-ghost use Rattle.rules.specs.Words.{one};
-ghost use Rattle.rules.specs.Roles.{isNine, isSuppressible, isDigit, isFirstDrifting, isStatic, isSign, driftsSign};
 ghost use Rattle.rules.specs.Form.{formed};
-ghost use Rattle.rules.specs.Good.{fitsRoom, good, plainNumber};
-ghost use Rattle.shape.specs.Judge.{allowed, bornOut, digitsWell, isDollar, judgedOf, mayFollow, opensMark, seenAll, seenNext, seenNone, shapeWell};
+ghost use Rattle.rules.specs.Good.{fitsRoom, good};
+ghost use Rattle.shape.specs.Judge.{judgedOf};
+ghost use Rattle.shape.specs.Machine.{bornOut, columnOf, foundBy, foundIn, goodBy, started, walkedAll};
 
 const LAST_KIND: u8 = 6;
 
 const MOST_SYMBOLS: usize = 64;
 
-const MOST_DIGITS: usize = 15;
+const MOST_DIGITS: u64 = 15;
 
-// What has been seen of a form's roles.
-struct Seen {
-    // the positions that still come before V
-    pub left: usize,
-    // the role just seen; before the first a nine, behind which all may come that may come first
-    pub last: u8,
-    // the first drifting symbol; under a kind that has none, from the start
-    pub met: bool,
-    // a digit or the first drifting symbol, and a static symbol behind one
-    pub begun: bool,
-    pub astray: bool,
-    pub nine: bool,
-    // a suppressible digit, and one behind V
-    pub borne: bool,
-    pub late: bool,
-    // a sign, and a $; one that drifts, from the start
-    pub signed: bool,
-    pub dollar: bool,
-    pub digits: usize,
-    // no role broke a rule
-    pub fine: bool,
+// From this phase on no rule is broken and no mark broken off.
+const UNBROKEN: usize = 48;
+
+// What a walk over roles found.
+struct Walked {
+    pub phase: usize,
+    pub sum: u64,
 }
 
 // What the pass finds of a form. Of one with more than 64 positions neither holds.
@@ -46,174 +36,66 @@ pub struct Judged {
     pub digits: bool,
 }
 
-// 01's words for roles, one function a word, so that a change of a word is a change of one function.
-fn is_nine(role: u8) -> bool
-    ensures { λ r. ⌜ r ≡ isNine role ⌝ }
+// The column of a role; bytes that are no role share the last.
+fn column(role: u8) -> usize
+    ensures { λ r. ⌜ (r ≡ columnOf role) × (r < 16) ⌝ }
 {
-    role == 0
-}
-
-fn is_suppressible(role: u8) -> bool
-    ensures { λ r. ⌜ r ≡ isSuppressible role ⌝ }
-{
-    role == 1
-}
-
-fn is_digit(role: u8) -> bool
-    ensures { λ r. ⌜ r ≡ isDigit role ⌝ }
-{
-    is_nine(role) | is_suppressible(role)
-}
-
-fn is_first_drifting(role: u8) -> bool
-    ensures { λ r. ⌜ r ≡ isFirstDrifting role ⌝ }
-{
-    role == 2
-}
-
-fn is_static(role: u8) -> bool
-    ensures { λ r. ⌜ r ≡ isStatic role ⌝ }
-{
-    (3 <= role) & (role <= 6)
-}
-
-fn is_sign(role: u8) -> bool
-    ensures { λ r. ⌜ r ≡ isSign role ⌝ }
-{
-    ((3 <= role) & (role <= 5)) | ((role == 11) | (role == 13))
-}
-
-fn is_plain(role: u8) -> bool
-    ensures { λ r. ⌜ r ≡ plainNumber role ⌝ }
-{
-    role <= 10
-}
-
-fn opens_mark(role: u8) -> bool
-    ensures { λ r. ⌜ r ≡ opensMark role ⌝ }
-{
-    (role == 11) | (role == 13)
-}
-
-fn drifts_sign(kind: u8) -> bool
-    ensures { λ r. ⌜ r ≡ driftsSign kind ⌝ }
-{
-    (3 <= kind) & (kind <= 5)
-}
-
-// Of a role the static $, of a kind the drifting one: they share their number.
-fn is_dollar(number: u8) -> bool
-    ensures { λ r. ⌜ r ≡ isDollar number ⌝ }
-{
-    number == 6
-}
-
-// CR and DB stand last, and V not between their letters.
-fn may_follow(last: u8, left: usize, role: u8) -> bool
-    ensures { λ r. ⌜ r ≡ mayFollow last left role ⌝ }
-{
-    let opens = (left != 1) & opens_mark(role);
-    let plain = is_plain(last) & (is_plain(role) | opens);
-    ((last == 11) & (role == 12)) | (((last == 13) & (role == 14)) | plain)
-}
-
-// Whether this role, after what has been seen, breaks no rule: one line a rule.
-fn allows(seen: Seen, role: u8) -> bool
-    ensures { λ r. ⌜ r ≡ allowed seen role ⌝ }
-{
-    let suppressible = is_suppressible(role);
-    let drifting = is_first_drifting(role);
-    let order = !(drifting & seen.met) & !(suppressible & !seen.met);
-    let nines = !(suppressible & seen.nine);
-    let statics = !(is_digit(role) & seen.astray);
-    let vee = !(drifting & (seen.left == 0));
-    let sign = !(is_sign(role) & seen.signed);
-    let dollar = !(is_dollar(role) & seen.dollar);
-    let mark = may_follow(seen.last, seen.left, role);
-    order & (nines & (statics & (vee & (sign & (dollar & mark)))))
-}
-
-// One less, and none of none.
-fn less(n: usize) -> usize
-    ensures { λ r. ⌜ r ≡ n - 1 ⌝ }
-{
-    if n == 0 {
-        return 0;
+    if role < 15 {
+        return role as usize;
     }
-    n - 1
+    15
 }
 
-fn more(n: usize, counts: bool) -> usize
-    requires { ⌜ n < 64 ⌝ }
-    ensures { λ r. ⌜ r ≡ n + one counts ⌝ }
+fn wide(phase: u8) -> usize
+    ensures { λ r. ⌜ (r ≡ phase) × (r < 256) ⌝ }
 {
-    if counts {
-        return n + 1;
-    }
-    n
+    phase as usize
 }
 
-// What has been seen with one role more. The calls stand first, so that the proof has them in a row.
-fn see(seen: Seen, role: u8) -> Seen
-    requires { ⌜ seen .digits < 64 ⌝ }
-    ensures { λ r. ⌜ r ≡ seenNext seen role ⌝ }
+fn wide_weight(weight: u32) -> u64
+    ensures { λ r. ⌜ (r ≡ weight) × (r < 4294967296) ⌝ }
 {
-    let digit = is_digit(role);
-    let digits = more(seen.digits, digit);
-    let left = less(seen.left);
-    let allowed = allows(seen, role);
-    let nine = is_nine(role);
-    let suppressible = is_suppressible(role);
-    let drifting = is_first_drifting(role);
-    let fixed = is_static(role);
-    let sign = is_sign(role);
-    let dollar = is_dollar(role);
-    Seen {
-        left: left,
-        last: role,
-        met: seen.met | drifting,
-        begun: (seen.begun | digit) | drifting,
-        astray: seen.astray | (fixed & seen.begun),
-        nine: seen.nine | nine,
-        borne: seen.borne | suppressible,
-        late: seen.late | ((seen.left == 0) & suppressible),
-        signed: seen.signed | sign,
-        dollar: seen.dollar | dollar,
-        digits: digits,
-        fine: seen.fine & allowed,
-    }
+    weight as u64
 }
 
-fn see_none(vee: usize, kind: u8) -> Seen
-    ensures { λ r. ⌜ r ≡ seenNone vee kind ⌝ }
+// One table step and one weight a role.
+fn walk(next: &[u8; 272], weight: &[u32; 16], roles: &[u8], from: Walked) -> Walked
+    requires { ⌜ (from .phase < 256) × (from .sum + 4294967296 * length (now roles) < 18446744073709551616) ⌝ }
+    ensures { λ r. ⌜ (r ≡ walkedAll (now (next .entry)) (now (weight .entry)) from (now (roles .entry))) × (r .phase < 256) × (r .sum ≤ from .sum + 4294967296 * length (now (roles .entry))) ⌝ }
 {
-    Seen {
-        left: vee,
-        last: 0,
-        met: kind <= 2,
-        begun: false,
-        astray: false,
-        nine: false,
-        borne: false,
-        late: false,
-        signed: drifts_sign(kind),
-        dollar: is_dollar(kind),
-        digits: 0,
-        fine: true,
-    }
-}
-
-fn see_all(roles: &[u8], seen: Seen) -> Seen
-    requires { ⌜ (length (now roles) ≤ 64) × (seen .digits ≡ 0) ⌝ }
-    ensures { λ r. ⌜ r ≡ seenAll seen (now (roles .entry)) ⌝ }
-{
-    let mut s = seen;
+    let mut phase = from.phase;
+    let mut sum = from.sum;
     for i in 0..roles.len() {
-        s = see(s, roles[i]);
+        let c = column(roles[i]);
+        phase = wide(next[phase + c]);
+        sum += wide_weight(weight[c]);
     }
-    s
+    Walked { phase, sum }
 }
 
+// Kinds 3 to 6 are to meet the first drifting symbol, and a drifting sign or $ counts as one.
+fn start(kind: u8) -> Walked
+    ensures { λ r. ⌜ (r ≡ started kind) × (r .phase < 256) × (r .sum < 4294967296) ⌝ }
+{
+    if kind <= 2 {
+        return Walked { phase: 112, sum: 0 };
+    }
+    if kind <= 5 {
+        return Walked {
+            phase: 64,
+            sum: 16384,
+        };
+    }
+    if kind == 6 {
+        return Walked {
+            phase: 64,
+            sum: 2097152,
+        };
+    }
+    Walked { phase: 64, sum: 0 }
+}
+
+// Some digit is suppressible exactly when the kind says so.
 fn born_out(kind: u8, borne: bool) -> bool
     ensures { λ r. ⌜ r ≡ bornOut kind borne ⌝ }
 {
@@ -223,36 +105,59 @@ fn born_out(kind: u8, borne: bool) -> bool
     borne
 }
 
-// The rules that only the end decides, and those that no role broke.
-fn shape_well(kind: u8, seen: Seen) -> bool
-    ensures { λ r. ⌜ r ≡ shapeWell kind seen ⌝ }
+// The rules that the phases hold, at V and at the end, and those that are counts.
+fn find(kind: u8, at: Walked, end: Walked) -> Judged
+    ensures { λ r. ⌜ r ≡ foundIn kind at end ⌝ }
 {
-    let whole = !opens_mark(seen.last);
-    let borne = born_out(kind, seen.borne);
-    seen.fine & (whole & (borne & !(seen.late & seen.nine)))
+    let digits = end.sum % 128;
+    let suppressible = end.sum / 128 % 128;
+    let signs = end.sum / 16384 % 128;
+    let dollars = end.sum / 2097152 % 128;
+    let borne = born_out(kind, 1 <= suppressible);
+    let places = (suppressible == at.sum / 128 % 128) | (suppressible == digits);
+    let drifts = end.sum / 268435456 == at.sum / 268435456;
+    let counts = (signs <= 1) & ((dollars <= 1) & (borne & (places & drifts)));
+    Judged {
+        shaped: (UNBROKEN <= at.phase) & ((UNBROKEN <= end.phase) & counts),
+        digits: (1 <= digits) & (digits <= MOST_DIGITS),
+    }
 }
 
-fn digits_well(seen: Seen) -> bool
-    ensures { λ r. ⌜ r ≡ digitsWell seen ⌝ }
+// The positions before V.
+fn before_vee(vee: usize, n: usize) -> usize
+    ensures { λ r. ⌜ r ≡ min vee n ⌝ }
 {
-    (1 <= seen.digits) & (seen.digits <= MOST_DIGITS)
+    if vee < n {
+        return vee;
+    }
+    n
 }
 
-// What the rules say of the form with these roles, V's place and kind.
-pub fn judge(roles: &[u8], vee: usize, kind: u8) -> Judged
-    ensures { λ r. ⌜ r ≡ judgedOf (formed (now (roles .entry)) vee kind) ⌝ }
+// What the pass by these tables finds of the form with these roles, V's place and kind. The tables are lent, so that they are
+// copied once for many forms; by those of tables.rt it finds what the rules say (proofs/Found.antt).
+pub fn judge_by(next: &[u8; 272], weight: &[u32; 16], roles: &[u8], vee: usize, kind: u8) -> Judged
+    ensures { λ r. ⌜ r ≡ foundBy (now (next .entry)) (now (weight .entry)) (formed (now (roles .entry)) vee kind) ⌝ }
 {
-    if MOST_SYMBOLS < roles.len() {
+    let n = roles.len();
+    if MOST_SYMBOLS < n {
         return Judged {
             shaped: false,
             digits: false,
         };
     }
-    let seen = see_all(roles, see_none(vee, kind));
-    Judged {
-        shaped: shape_well(kind, seen),
-        digits: digits_well(seen),
-    }
+    let v = before_vee(vee, n);
+    let at = walk(next, weight, &roles[..v], start(kind));
+    let end = walk(next, weight, &roles[v..], at);
+    find(kind, at, end)
+}
+
+// What the rules say of the form.
+pub fn judge(roles: &[u8], vee: usize, kind: u8) -> Judged
+    ensures { λ r. ⌜ r ≡ judgedOf (formed (now (roles .entry)) vee kind) ⌝ }
+{
+    let next = next_table();
+    let weight = weight_table();
+    judge_by(&next, &weight, roles, vee, kind)
 }
 
 // V counts among the symbols where a position stands behind it; at the end it need not be written.
@@ -268,9 +173,10 @@ fn fits_room(n: usize, vee: usize) -> bool
     n < MOST_SYMBOLS
 }
 
-// Whether some accepted picture has this form.
-pub fn is_good(roles: &[u8], vee: usize, kind: u8) -> bool
-    ensures { λ r. ⌜ r ≡ good (formed (now (roles .entry)) vee kind) ⌝ }
+// Whether the pass by these tables takes the form for that of an accepted picture. A kind of its own, judged by other rules, has
+// its place behind the first test.
+pub fn is_good_by(next: &[u8; 272], weight: &[u32; 16], roles: &[u8], vee: usize, kind: u8) -> bool
+    ensures { λ r. ⌜ r ≡ goodBy (now (next .entry)) (now (weight .entry)) (formed (now (roles .entry)) vee kind) ⌝ }
 {
     if LAST_KIND < kind {
         return false;
@@ -278,6 +184,15 @@ pub fn is_good(roles: &[u8], vee: usize, kind: u8) -> bool
     if !fits_room(roles.len(), vee) {
         return false;
     }
-    let found = judge(roles, vee, kind);
+    let found = judge_by(next, weight, roles, vee, kind);
     found.shaped & found.digits
+}
+
+// Whether some accepted picture has this form.
+pub fn is_good(roles: &[u8], vee: usize, kind: u8) -> bool
+    ensures { λ r. ⌜ r ≡ good (formed (now (roles .entry)) vee kind) ⌝ }
+{
+    let next = next_table();
+    let weight = weight_table();
+    is_good_by(&next, &weight, roles, vee, kind)
 }

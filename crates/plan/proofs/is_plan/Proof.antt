@@ -1,7 +1,7 @@
 -- `plan::is_plan` meets its contract: each way through it is a law of Whole. Assumes nothing.
 use borrow.Author.Needs.{needs}
 use native.Mathlib.Omega.{arith}
-use Rattle.plan.proofs.Whole.{by-forms, many-fields, no-byte, no-field, no-headers, other-count, other-length}
+use Rattle.plan.proofs.Whole.{by-forms, many-fields, no-byte, no-field, no-headers, other-length}
 use Rattle.plan.proofs.is_plan.Statement.{statement}
 use Rattle.plan.proofs.is_plan.Tie as tie
 
@@ -21,17 +21,12 @@ returns-4 : tie.Need-returns-4
 returns-4 c = no-headers _ (search needs)
 
 returns-5 : tie.Need-returns-5
-returns-5 c = other-length _ _ (c .before .measured .ensures .0) (λ e. omega arith)
+returns-5 c = other-length _ _ (c .before .two-bytes .ensures) (λ e. omega arith)
 
 returns-6 : tie.Need-returns-6
 returns-6 c =
-    let a = c .before in
-    other-count _ _ (a .before .before .measured .ensures .0) _ (a .two-bytes .ensures) (c .if6 .taken)
-
-returns-7 : tie.Need-returns-7
-returns-7 c =
-    let a = c .before .before in
-    by-forms _ _ (a .before .before .measured .ensures .0) _ (a .two-bytes .ensures) (c .before .if6 .left) (search needs) (search needs) (search needs) _ (c .all-good .ensures)
+    let tested = c .before .before .before .before .before in
+    by-forms _ _ (tested .before .two-bytes .ensures) (omega arith) (search needs) (search needs) _ (c .all-good .ensures)
 
 pub is-plan-spec : {M : Type 1} → statement M
 is-plan-spec =
@@ -45,11 +40,11 @@ is-plan-spec =
     (λ c. search needs)
     (λ c. search needs)
     returns-4
+    (λ c. search needs)
     (λ c κs. search needs)
     (λ c. search needs)
     returns-5
-    (λ c. search needs)
     (λ c κs. search needs)
-    returns-6
     (λ c κs. search needs)
-    returns-7)
+    (λ c κs. search needs)
+    returns-6)
