@@ -1,15 +1,14 @@
--- A number as little-endian bytes, and back. A loop that writes keeps u / 256^j, whose last byte is byte j; a loop that reads goes from
--- the last byte to the first, so that each turn is a clause of leValue. Assumes nothing.
+-- A number as little-endian bytes, and back. A loop that writes keeps u / 256^j, whose last byte is byte j. Reading has no loop: four
+-- clauses of leValue are four products and 2^32 times the rest, so eight bytes are two fours. Assumes nothing.
 use mathlib.Core.Path.{_≡_, refl, sym, _∙_, ap}
 use mathlib.Core.List.{List, _++_, append-assoc}
-use Prim.Native.Nat.{ℕ, zero, suc, _+_, _-_, _*_, _/_, _%_, _^_, _≤_, _<_}
-use native.Mathlib.Nat.{div-one, div-add-mod', div-lt-iff-lt-mul, div-div-eq-div-mul, pow-suc, pow-succ', pow-le-pow-right, lt-of-lt-of-le, le-of-suc-le-suc, not-suc-le-zero}
+use Prim.Native.Nat.{ℕ, zero, suc, _+_, _*_, _/_, _%_, _^_, _≤_, _<_}
+use native.Mathlib.Nat.{div-one, div-add-mod', div-lt-iff-lt-mul, div-div-eq-div-mul, pow-suc, pow-succ', le-of-suc-le-suc, not-suc-le-zero}
 use native.Mathlib.Omega.{arith}
 use native.Mathlib.Numerals.{add-one}
-use lib.Arith.{digits-lt}
 use lib.Dec.{lit<, lit≤}
-use lib.ListN.{length, getD, set, take, drop, length-drop, drop-of-length-le}
-use lib.Seq.{drop-cons, take-all, getD-take, getD-drop, length-take-le, paste-zero, paste-suc, length-paste}
+use lib.ListN.{length, getD, set, take, drop}
+use lib.Seq.{drop-cons, take-all, paste-zero, paste-suc, length-paste}
 use lib.IntN.{ℤ}
 use Rattle.rules.specs.Collector.{bitsOf, leBytes, leValue, bytesOf}
 
@@ -62,39 +61,24 @@ module _ (d : List ℕ) (at u : ℕ) where
       rw (take-all 8 (leBytes 8 u) (rw bytes-length (lit≤ tt)))
       (append-assoc (take at d) (leBytes 8 u) (drop (at + 8) d))
 
--- reading: what the bytes from byte j of the eight on are worth
-unfoldable pub loaded : List ℕ → ℕ → ℕ → ℕ
-loaded s at j = leValue (drop j (take 8 (drop at s)))
-
-value-more : (l : List ℕ) (j : ℕ) → j < length l → leValue (drop j l) ≡ leValue (drop (suc j) l) * 256 + getD l j 0
+-- reading: a byte is worth itself, and what stands behind it 256 times as much
+value-more : (s : List ℕ) (at next n : ℕ) → at < length s → suc at ≡ next → leValue (take (suc n) (drop at s)) ≡ getD s at 0 + 256 * leValue (take n (drop next s))
 unfolding leValue
-value-more l j h = rw (drop-cons l j 0 h)
+value-more s at next n h e = rw (drop-cons s at 0 h, e) (omega arith)
 
-module _ (s : List ℕ) (at : ℕ) (room : at + 8 ≤ length s) where
-  length-eight : length (take 8 (drop at s)) ≡ 8
-  length-eight = length-take-le 8 (drop at s) (rw length-drop (omega arith))
-
-  pub load-none : 0 ≡ loaded s at 8
-  unfolding loaded leValue
-  load-none = sym (ap leValue (drop-of-length-le (take 8 (drop at s)) {i = 8} (rw length-eight (lit≤ tt))))
-
-  pub load-more : (j : ℕ) → 0 < j → j ≤ 8 → loaded s at j * 256 + getD s (at + (j - 1)) 0 ≡ loaded s at (j - 1)
-  unfolding loaded
-  load-more j h l =
-      let part = take 8 (drop at s) in
-      let g : j - 1 < 8 = omega arith in
+module _ (s : List ℕ) (at : ℕ) where
+  -- four bytes are four products, and what stands behind them weighs 2^32
+  pub four-more : (n : ℕ) → at + 4 ≤ length s
+      → leValue (take (suc (suc (suc (suc n)))) (drop at s)) ≡ getD s at 0 + 256 * getD s (at + 1) 0 + 65536 * getD s (at + 2) 0 + 16777216 * getD s (at + 3) 0 + 4294967296 * leValue (take n (drop (at + 4) s))
+  four-more n h =
       omega (
         arith,
-        value-more part (j - 1) (rw length-eight g),
-        ap (λ k. leValue (drop k part)) {x = suc (j - 1)} {y = j} (omega arith),
-        getD-take 8 (drop at s) (j - 1) 0 g ∙ getD-drop at s (j - 1) 0,
+        value-more s at (at + 1) (suc (suc (suc n))) (omega arith) (omega arith),
+        value-more s (at + 1) (at + 2) (suc (suc n)) (omega arith) (omega arith),
+        value-more s (at + 2) (at + 3) (suc n) (omega arith) (omega arith),
+        value-more s (at + 3) (at + 4) n (omega arith) (omega arith),
       )
 
--- the bound that reading keeps
-pub load-lt : (u b j : ℕ) → 0 < j → j ≤ 8 → u < 256 ^ (8 - j) → b < 256 → u * 256 + b < 256 ^ (8 - (j - 1))
-load-lt u b j h l hu hb =
-    let e : 8 - (j - 1) ≡ suc (8 - j) = omega arith in
-    rw (e, pow-suc) (digits-lt hu hb)
-
-pub load-small : (u j : ℕ) → 0 < j → u < 256 ^ (8 - j) → u < 256 ^ 7
-load-small u j h hu = lt-of-lt-of-le hu (pow-le-pow-right {n = 256} (lit< tt) {i = 8 - j} {j = 7} (omega arith))
+  pub two-fours : at + 8 ≤ length s → leValue (take 8 (drop at s)) ≡ leValue (take 4 (drop at s)) + 4294967296 * leValue (take 4 (drop (at + 4) s))
+  unfolding leValue
+  two-fours h = omega (arith, four-more 4 (omega arith), four-more 0 (omega arith))

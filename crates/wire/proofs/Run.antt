@@ -2,7 +2,7 @@
 -- read is the part between the cuts. Assumes nothing.
 use mathlib.Core.Path.{_≡_, sym, _∙_, ap}
 use mathlib.Core.List.{List, _++_}
-use Prim.Native.Nat.{ℕ, _+_, _≤_, _<_}
+use Prim.Native.Nat.{ℕ, _+_, _*_, _≤_, _<_}
 use native.Mathlib.Omega.{arith}
 use lib.Dec.{leb}
 use lib.IntN.{ℤ, pos}
@@ -11,11 +11,11 @@ use lib.Seq.{take-at, drop-at, length-take-le}
 use borrow.Author.Tests.{leb-true, leb-false, le-leb, lt-leb}
 use mir.Syntax.{w64}
 use mir.Val.{SFits}
-use Rattle.rules.specs.Collector.{bitsOf, intOf, leBytes, bytesOf, intIn}
+use Rattle.rules.specs.Collector.{bitsOf, intOf, leBytes, leValue, bytesOf, intIn}
 use Rattle.rules.proofs.Logic.{by-test}
 use Rattle.wire.specs.Run.{putAt, getAt}
 use Rattle.wire.proofs.Complement.{bits-lt, int-bits}
-use Rattle.wire.proofs.Bytes.{eight-bytes, value-bytes, stored, store-all, loaded}
+use Rattle.wire.proofs.Bytes.{eight-bytes, value-bytes, stored, store-all, two-fours}
 
 -- by the two ways of the test
 module _ (d : List ℕ) (at : ℕ) where
@@ -35,14 +35,14 @@ module _ (d : List ℕ) (at : ℕ) where
   unfolding getAt
   get-in h = rw (le-leb _ _ h)
 
-  -- what the two loops end with
+  -- what the loop that writes ends with, and what the two fours read are
   pub put-stored : (m : ℤ) → at + 8 ≤ length d → stored d at (bitsOf m) 8 ≡ putAt d at m
   unfolding bytesOf
   put-stored m h = store-all d at (bitsOf m) ∙ sym (put-in m h)
 
-  pub get-loaded : at + 8 ≤ length d → intOf (loaded d at 0) ≡ getAt d at
-  unfolding loaded intIn
-  get-loaded h = sym (get-in h)
+  pub get-fours : at + 8 ≤ length d → intOf (leValue (take 4 (drop at d)) + 4294967296 * leValue (take 4 (drop (at + 4) d))) ≡ getAt d at
+  unfolding intIn
+  get-fours h = ap intOf (sym (two-fours d at h)) ∙ sym (get-in h)
 
   pub put-length : (m : ℤ) → length (putAt d at m) ≡ length d
   put-length m =

@@ -1,8 +1,9 @@
 // Rows as runs of bytes: signed 64-bit numbers in two's complement, eight little-endian bytes each. No function that is called from
 // outside has a `requires`: where eight bytes do not fit, nothing is written and 0 is read.
 ghost use mathlib.Core.Path.{_≡_};
-ghost use Prim.Native.Nat.{_<_};
-ghost use Rattle.rules.specs.Collector.{bitsOf, intOf};
+ghost use Prim.Native.Nat.{_+_, _≤_, _<_};
+ghost use lib.ListN.{length, take, drop};
+ghost use Rattle.rules.specs.Collector.{bitsOf, intOf, leValue};
 ghost use Rattle.wire.specs.Run.{putAt, getAt, putRow, getRow};
 
 // The eight bytes of m from byte `at` on; all else stays.
@@ -16,6 +17,14 @@ pub fn put(run: &mut [u8], at: usize, m: i64)
     if room - 8 < at {
         return;
     }
+    store(run, at, m);
+}
+
+// The same where it is known that they fit, so that a row asks once.
+fn store(run: &mut [u8], at: usize, m: i64)
+    requires { ⌜ at + 8 ≤ length (now run) ⌝ }
+    ensures memory { λ _. ⌜ now (run .exit) ≡ putAt (now (run .entry)) at m ⌝ }
+{
     let mut rest = bits(m);
     let mut j = 0;
     while j < 8 {
@@ -33,7 +42,7 @@ pub fn put_row(run: &mut [u8], row: &[i64])
         return;
     }
     for k in 0..row.len() {
-        put(run, 8 * k, row[k]);
+        store(run, 8 * k, row[k]);
     }
 }
 
@@ -60,13 +69,18 @@ pub fn get(run: &[u8], at: usize) -> i64
     if room - 8 < at {
         return 0;
     }
-    let mut value: u64 = 0;
-    let mut j = 8;
-    while j > 0 {
-        j -= 1;
-        value = value * 256 + wide(run[at + j]);
-    }
-    int(value)
+    int(four(run, at) + 4294967296 * four(run, at + 4))
+}
+
+// The number in the four bytes from byte `at` on. `get` is two of these and no loop: no invariant, and a compiler makes one load of both.
+fn four(run: &[u8], at: usize) -> u64
+    requires { do ⌜ at + 4 ≤ (← ⟦run.len()⟧) ⌝ }
+    ensures { λ r. ⌜ (r ≡ leValue (take 4 (drop at (now (run .entry))))) × (r < 4294967296) ⌝ }
+{
+    wide(run[at])
+        + 256 * wide(run[at + 1])
+        + 65536 * wide(run[at + 2])
+        + 16777216 * wide(run[at + 3])
 }
 
 // The bits of m. Nothing is negated, so the least number is safe.

@@ -1,88 +1,20 @@
--- `wire::put` meets its contract: where eight bytes do not fit nothing is written, and else after j turns the first j bytes stand in the
--- run and the number divided by 256^j is left. Assumes nothing.
-use mathlib.Core.Path.{_≡_, sym, ap, _∙_}
-use Prim.Native.Nat.{_+_, _-_, _/_, _^_, _≤_}
-use native.Mathlib.Nat.{div-one}
+-- `wire::put` meets its contract: where eight bytes do not fit nothing is written. Assumes nothing.
+use mathlib.Core.Path.{sym}
 use native.Mathlib.Omega.{arith}
-use lib.ListN.{length}
 use mir.Facts.{toZ-ofZ}
 use borrow.Author.Needs.{needs}
-use Rattle.wire.proofs.Bytes.{stored, rest-more, store-none, store-more, store-length}
-use Rattle.wire.proofs.Run.{put-out, put-stored}
+use Rattle.wire.proofs.Run.{put-out}
 use Rattle.wire.proofs.put.Statement.{statement}
 use Rattle.wire.proofs.put.Tie as tie
 
-abbrev Inv-loop : tie.InvT-loop
-Inv-loop run₀ at m room rest₀ j₀ run rest j = (j ≤ 8) × (run ≡ stored run₀ at rest₀ j) × (rest ≡ rest₀ / 256 ^ j)
-
-abbrev μ-loop : tie.MeasureT-loop
-μ-loop run₀ at m room rest₀ j₀ run rest j = 8 - j
-
--- past both tests eight bytes fit
-fits : (c : tie.Else2 Inv-loop μ-loop) → c .before .before .before .args .at + 8 ≤ length (c .before .before .before .args .run .now)
-fits c = omega arith
-
-kept : (c : tie.At-loop Inv-loop μ-loop) → length (c .loop .run) ≡ length (c .before .before .before .before .before .args .run .now)
-kept c = ap length (c .loop .inv .1) ∙ store-length _ _ _ _ (fits (c .before .before)) (c .loop .inv .0)
-
-returns : tie.Need-returns Inv-loop μ-loop
+returns : tie.Need-returns
 returns c = sym (put-out _ _ _ (omega arith))
 
-returns-2 : tie.Need-returns-2 Inv-loop μ-loop
+returns-2 : tie.Need-returns-2
 returns-2 c = sym (put-out _ _ _ (omega arith))
 
-bits-requires : tie.Need-bits-requires Inv-loop μ-loop
-bits-requires c κs = search needs
-
-loop-holds : tie.Need-loop-holds Inv-loop μ-loop
-loop-holds c = (search needs, store-none _ _ _, sym (div-one _))
-
-cast-run : tie.Need-cast-run Inv-loop μ-loop
-cast-run c = search needs
-
-add-run : tie.Need-add-run Inv-loop μ-loop
-add-run c = search needs
-
-slice-write-run : tie.Need-slice-write-run Inv-loop μ-loop
-slice-write-run c = omega (arith, kept (c .before))
-
-add-j : tie.Need-add-j Inv-loop μ-loop
-add-j c = search needs
-
-loop-less : tie.Need-loop-less Inv-loop μ-loop
-loop-less c = search needs
-
-loop-again : tie.Need-loop-again Inv-loop μ-loop
-loop-again c = (
-  omega arith,
-  rw (c .before .loop .inv .1, c .before .loop .inv .2) (store-more _ _ _ _ (fits (c .before .before .before)) (search needs)),
-  rw (c .before .loop .inv .2) (rest-more _ _),
-)
-
-same-length : tie.Need-same-length Inv-loop μ-loop
-same-length c = kept (c .before)
-
-returns-3 : tie.Need-returns-3 Inv-loop μ-loop
-returns-3 c =
-    let e : c .before .loop .j ≡ 8 = omega arith in
-    rw (c .before .loop .inv .1, e, c .before .before .bits .ensures, toZ-ofZ (c .before .before .before .before .before .before .fits .m))
-    (put-stored _ _ _ (fits (c .before .before .before)))
+returns-3 : tie.Need-returns-3
+returns-3 c = rw (toZ-ofZ (c .before .before .before .before .before .before .before .fits .m)) at (c .before .before .store .ensures)
 
 pub put-spec : {M : Type 1} → statement M
-put-spec =
-    tie.close
-    (tie.spec
-    Inv-loop
-    μ-loop
-    returns
-    returns-2
-    bits-requires
-    loop-holds
-    cast-run
-    add-run
-    slice-write-run
-    add-j
-    loop-less
-    loop-again
-    same-length
-    returns-3)
+put-spec = tie.close (tie.spec returns returns-2 (λ c κs. search needs) (λ c. search needs) returns-3)

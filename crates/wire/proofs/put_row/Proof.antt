@@ -35,8 +35,8 @@ loop-again c =
     let p = c .before .before in
     let h = c .before .before .before .before .before .before in
     let s = h .before .before .before in
-    let f : SFits w64 (getD (s .args .row .now) (h .loop .k) (pos 0)) = record { sfits = p .before .put-arg2 .given } in
-    let e = p .put .ensures ∙ ap (λ (z : ℤ). putAt (h .loop .run) (8 * h .loop .k) z) (toZ-ofZ f) in (
+    let f : SFits w64 (getD (s .args .row .now) (h .loop .k) (pos 0)) = record { sfits = p .before .store-arg2 .given } in
+    let e = p .store .ensures ∙ ap (λ (z : ℤ). putAt (h .loop .run) (8 * h .loop .k) z) (toZ-ofZ f) in (
       search needs,
       refl,
       h .loop .inv .2,
