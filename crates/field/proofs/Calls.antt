@@ -1,10 +1,10 @@
--- The public calls from their steps: digits made or shown, the stretch and the characters together are the field of that magnitude, and the
--- ways out of editing and reading are the cases of their definitions. Assumes nothing.
-use mathlib.Core.Path.{_≡_, refl, ap}
+-- The public calls from their steps: the digits made, the stretch and the characters together are the field of that magnitude, and the ways
+-- out of editing and reading are the cases of their definitions. Assumes nothing.
+use mathlib.Core.Path.{_≡_, ap}
 use mathlib.Core.Bool.{Bool, true, false, not, _&&_, and-false}
 use mathlib.Core.List.{List, [], _++_}
 use mathlib.Core.Option.{none, some}
-use Prim.Native.Nat.{ℕ, _+_, _-_, _^_, _<_, _≤_}
+use Prim.Native.Nat.{ℕ, _+_, _-_, _<_, _≤_}
 use borrow.Author.Tests.{eq-eqb, le-leb, le-ltb, lt-leb, lt-ltb, ne-eqb}
 use native.Mathlib.Omega.{arith}
 use lib.Dec.{eqb, leb, ltb}
@@ -17,15 +17,13 @@ use Rattle.rules.specs.Roles.{isDigit, isNine}
 use Rattle.rules.specs.Form.{Form, size}
 use Rattle.rules.specs.Shape.{digitCount, mostDigits}
 use Rattle.rules.specs.Edit.{allSuppressible, field, hasSign, isBlank}
-use Rattle.rules.specs.Candidate.{minusFits, readOf, readingOf, shown, signed, worthOf}
+use Rattle.rules.specs.Candidate.{minusFits, readOf, readingOf, signed, worthOf}
 use Rattle.rules.proofs.Lists.{count-split}
-use Rattle.rules.proofs.Digits.{digits-digits, ten-le}
-use Rattle.rules.proofs.Exact.{shown-small}
+use Rattle.rules.proofs.Digits.{digits-digits}
 use Rattle.decimal.specs.Digits.{digitRoom}
-use Rattle.decimal.specs.Sign.{joinedOf}
 use Rattle.field.specs.Results.{fieldRoom, readIn, roomOf}
-use Rattle.field.specs.Steps.{cellIn, shownRoom, stretchOf, surveyOf}
-use Rattle.field.proofs.Whole.{field-whole, padded, padded-digits, shown-digits, worth-digits}
+use Rattle.field.specs.Steps.{cellIn, stretchOf, surveyOf}
+use Rattle.field.proofs.Whole.{field-whole, padded, padded-digits}
 
 module _ (rs : List ℕ) (v : ℕ) where
   -- the digits on both sides of V are all
@@ -61,25 +59,6 @@ module _ (φ : Form) where
 
 -- Reading.
 module _ (φ : Form) (f : List ℕ) where
-  pub shown-room-digits : Digits (shownRoom (φ .roles) f .at)
-  unfolding shownRoom
-  shown-room-digits = padded-digits (shown φ f) (16 - length (shown φ f)) (shown-digits (φ .roles) f)
-
-  -- what is compared is the field of what the digits shown are worth
-  pub compared : (nine negative : Bool) → nine ≡ any isNine (φ .roles)
-      → upTo (size φ) (cellIn (φ .roles) (φ .kind) (stretchOf φ (shownRoom (φ .roles) f .at) (not nine && eqb (shownRoom (φ .roles) f .worth) 0)) (shownRoom (φ .roles) f .at) negative)
-      ≡ field φ negative (worthOf φ f)
-  unfolding shownRoom isBlank allSuppressible worthOf
-  compared nine negative e = rw e (field-whole φ _ negative (worthOf φ f) (λ j. rw (worth-digits φ f) (padded (shown φ f) (16 - length (shown φ f)) j)))
-
-  pub worth-is : shownRoom (φ .roles) f .worth ≡ worthOf φ f
-  unfolding shownRoom worthOf
-  worth-is = refl
-
-  pub worth-joined : (negative : Bool) → digitCount φ ≤ mostDigits → joinedOf negative (worthOf φ f) ≡ signed negative (worthOf φ f)
-  unfolding joinedOf worthOf
-  worth-joined negative d = rw (lt-ltb (worthOf φ f) (10 ^ mostDigits) (omega (arith, shown-small (φ .roles) f, ten-le (digitCount φ) mostDigits d)))
-
   module _ (plus : same (field φ false (worthOf φ f)) f ≡ false) where
     pub reads-zero : worthOf φ f ≡ 0 → readOf φ f ≡ none
     unfolding readOf minusFits

@@ -2,4 +2,5 @@ pub mod Columns
 pub mod Loops
 pub mod Whole
 pub mod Calls
+pub mod Passing
 pub mod Laws

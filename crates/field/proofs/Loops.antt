@@ -42,6 +42,19 @@ module _ (p : ℕ → Bool) where
   pub count-same : (rs : List ℕ) (k : ℕ) → k < length rs → p (getD rs k 0) ≡ false → count p (take (k + 1) rs) ≡ count p (take k rs)
   count-same rs k h e = let q = rw e at (count-next rs k h) in omega arith
 
+  -- from the end: the members from position k - 1 on
+  module _ (rs : List ℕ) (k : ℕ) (h : 0 < k) (l : k ≤ length rs) where
+    drop-back : drop (k - 1) rs ≡ getD rs (k - 1) 0 ∷ drop k rs
+    drop-back = let e : suc (k - 1) ≡ k = omega arith in rw e at (drop-cons rs (k - 1) 0 (omega arith))
+
+    pub count-back : count p (drop (k - 1) rs) ≡ one (p (getD rs (k - 1) 0)) + count p (drop k rs)
+    unfolding count
+    count-back = rw drop-back (by-test (p (getD rs (k - 1) 0)) (λ g. rw g (omega arith)) (λ g. rw g (omega arith)))
+
+    pub any-back : any p (drop k rs) ≡ false → p (getD rs (k - 1) 0) ≡ false → any p (drop (k - 1) rs) ≡ false
+    unfolding any
+    any-back e q = rw (drop-back, q) e
+
   pub count-part : (rs : List ℕ) (k : ℕ) → count p (take k rs) ≤ count p rs
   count-part rs k = omega (arith, count-split p k rs)
 

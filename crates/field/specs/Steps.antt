@@ -1,29 +1,20 @@
 -- Not 01's words: what the steps of the calls hand on. Each is judged from the roles alone, so that a step knows only what it uses.
 -- Assumes nothing.
-use mathlib.Core.Path.{_≡_}
 use mathlib.Core.Bool.{Bool, cond, _&&_}
-use mathlib.Core.List.{List, _++_}
-use Prim.Native.Nat.{ℕ, _-_, _≤_}
+use mathlib.Core.List.{List}
+use Prim.Native.Nat.{ℕ}
 use lib.Dec.{leb, ltb, eqb}
-use lib.ListN.{length, getD, take, drop, replicate}
+use lib.ListN.{getD, take, drop}
 use Rattle.rules.specs.Words.{any, count}
-use Rattle.rules.specs.Digits.{valueOf}
 use Rattle.rules.specs.Roles.{drifts, isDigit, isNine, isSign}
 use Rattle.rules.specs.Form.{Form, size}
-use Rattle.rules.specs.Shape.{digitCount, mostDigits}
-use Rattle.rules.specs.Edit.{cell, driftsTo, hasSign, opening, start}
-use Rattle.rules.specs.Candidate.{shownIn}
+use Rattle.rules.specs.Edit.{cell, driftsTo, opening, start}
 use Rattle.field.specs.declared.survey.Survey.{Survey}
 use Rattle.field.specs.declared.stretch.Stretch.{Stretch}
-use Rattle.field.specs.declared.shown.Shown.{Shown}
 
 -- what one pass over the roles counts
 unfoldable pub surveyOf : List ℕ → ℕ → Survey
 surveyOf rs v = record { whole = count isDigit (take v rs); places = count isDigit (drop v rs); signed = any isSign rs; nine = any isNine rs }
-
--- the digits that a field shows, with 0 after them, and what they are worth
-unfoldable pub shownRoom : List ℕ → List ℕ → Shown
-shownRoom rs f = record { at = shownIn rs f ++ replicate (16 - length (shownIn rs f)) 0; worth = valueOf (shownIn rs f) }
 
 -- The stretch of a field and the place of the drifting character; the place past the field where there is none. A blank field is all
 -- stretch.
@@ -39,10 +30,3 @@ isInside s k = leb (s .from) k && ltb k (s .to)
 -- the character at position k
 unfoldable pub cellIn : List ℕ → ℕ → Stretch → List ℕ → Bool → ℕ → ℕ
 cellIn rs kind s ds negative k = cell kind (getD rs k 0) (isInside s k) (eqb k (s .spot)) negative (getD ds (count isDigit (take k rs)) 0)
-
--- what is known before the digits are read: the field's length is right, the digits are not too many, and what the roles say
-pub record Looked (φ : Form) (f : List ℕ) (nine signed : Bool) : Type 0 where
-  pub long : length f ≡ size φ
-  pub few : digitCount φ ≤ mostDigits
-  pub nines : nine ≡ any isNine (φ .roles)
-  pub sign : signed ≡ hasSign φ

@@ -1,4 +1,4 @@
-// The characters of a field, position by position: written into a room, or compared with the bytes of a field.
+// The characters of a field, position by position, written into a room.
 use super::Field;
 use super::marks::digits_at;
 use super::marks::fill_of;
@@ -10,7 +10,6 @@ ghost use mathlib.Core.Path.{_≡_};
 ghost use Prim.Native.Nat.{_≤_, _<_};
 ghost use lib.Dec.{eqb};
 ghost use lib.ListN.{length};
-ghost use Rattle.rules.specs.Words.{same};
 ghost use Rattle.rules.specs.Search.{upTo};
 ghost use Rattle.rules.specs.Digits.{Digits};
 ghost use Rattle.rules.specs.Edit.{cell};
@@ -26,8 +25,7 @@ fn is_inside(stretch: Stretch, k: usize) -> bool
     false
 }
 
-// The character at position k, which has this role and the digit d. The same function serves writing and comparing, so that a field
-// is read exactly as it is written.
+// The character at position k, which has this role and the digit d.
 fn cell_of(kind: u8, role: u8, stretch: Stretch, k: usize, negative: bool, d: u8) -> u8
     requires { ⌜ d < 10 ⌝ }
     ensures { λ r. ⌜ r ≡ cell kind role (isInside stretch k) (eqb k (stretch .spot)) negative d ⌝ }
@@ -61,28 +59,4 @@ pub(crate) fn put(roles: &[u8], kind: u8, stretch: Stretch, ds: &[u8], negative:
         chars,
         count: roles.len(),
     }
-}
-
-// Whether these are the bytes of the field.
-pub(crate) fn gives(
-    roles: &[u8],
-    kind: u8,
-    stretch: Stretch,
-    ds: &[u8],
-    negative: bool,
-    field: &[u8],
-) -> bool
-    requires { ⌜ (length (now field) ≡ length (now roles)) × Digits (now ds) ⌝ }
-    ensures { λ r. ⌜ r ≡ same (upTo (length (now (roles .entry))) (cellIn (now (roles .entry)) kind stretch (now (ds .entry)) negative)) (now (field .entry)) ⌝ }
-{
-    let mut j: usize = 0;
-    for k in 0..field.len() {
-        let role = roles[k];
-        let d = digit_at(ds, j);
-        if field[k] != cell_of(kind, role, stretch, k, negative, d) {
-            return false;
-        }
-        j += digits_at(role);
-    }
-    true
 }

@@ -1,16 +1,18 @@
 // One field of one form: what a value's characters are, and which value a field shows. A form comes as its parts, the roles of
 // its positions, the number of positions before V, and the kind of suppression. Each call answers for every input.
-mod cells; // cells.rt: the characters of a field, written or compared
+mod cells; // cells.rt: the characters of a field, written
 mod marks; // marks.rt: roles and the characters that they show
-mod shown; // shown.rt: the digits that a field shows, and the value
+mod reading; // reading.rt: the value that has a field
 mod stretch; // stretch.rt: which positions are suppressed
-mod survey; // survey.rt: one pass over the roles
+mod survey; // survey.rt: one pass over the roles, for measuring and editing
+mod zones; // zones.rt: one pass over a field that is read
 
 use cells::put;
 use decimal::digits::digits;
 use marks::sign_drifts;
+use reading::is_many;
+use reading::value_in;
 use rules::Reading;
-use shown::value_in;
 use stretch::is_blank;
 use stretch::stretch_of;
 use survey::survey_of;
@@ -22,7 +24,7 @@ ghost use Rattle.rules.specs.Form.{formed};
 ghost use Rattle.field.specs.Results.{measureOf, roomOf, fieldRoom, readIn};
 
 // More digits or positions than these no picture has, and the rooms have no place for them.
-const MOST_DIGITS: usize = 15;
+pub(crate) const MOST_DIGITS: usize = 15;
 
 const MOST_POSITIONS: usize = 64;
 
@@ -95,16 +97,8 @@ pub fn read(roles: &[u8], vee: usize, kind: u8, field: &[u8]) -> Reading
     if field.len() != roles.len() {
         return Reading::Conversion;
     }
-    let seen = survey_of(roles, vee);
-    if MOST_DIGITS < seen.whole + seen.places {
+    if is_many(roles) {
         return Reading::Conversion;
     }
-    value_in(
-        roles,
-        vee,
-        kind,
-        field,
-        seen.nine,
-        has_sign(seen.signed, kind),
-    )
+    value_in(roles, vee, kind, field)
 }

@@ -1,5 +1,5 @@
-// One pass over the roles: the digits on both sides of V, and whether a sign and a nine are among them. All that editing and
-// reading ask of the roles before they come to a value.
+// One pass over the roles: the digits on both sides of V, and whether a sign and a nine are among them. All that measuring
+// and editing ask of the roles before they come to a value.
 use super::marks::is_digit;
 use super::marks::is_nine;
 use super::marks::is_sign;
