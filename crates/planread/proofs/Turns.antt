@@ -8,8 +8,8 @@ use mathlib.Core.Option.{Option, none, some}
 use native.Mathlib.Omega.{arith}
 use borrow.Author.Tests.{leb-true}
 use lib.Dec.{leb}
-use lib.IntN.{ℤ, pos}
-use lib.ListN.{length, getD, take, drop, set, replicate, length-take, length-drop}
+use lib.IntN.{ℤ}
+use lib.ListN.{length, getD, take, drop, set, length-take, length-drop}
 use lib.Seq.{drop-drop}
 use Rattle.rules.specs.declared.Reading.{Reading}
 use Rattle.rules.specs.declared.Reading.the-variants.{Value, Conversion}
@@ -25,7 +25,7 @@ use Rattle.rules.proofs.PlanWalk.{fieldCount, formAt, formsAt, plan-parts, walk
 use Rattle.field.specs.Results.{readIn}
 use Rattle.field.proofs.Laws.{read-in}
 use Rattle.plan.proofs.Parts.{Walking, walking-good, walking-length, walking-start, walking-step, walking-within}
-use Rattle.planread.specs.Runs.{Due, ranFrom, ranOf}
+use Rattle.planread.specs.Runs.{Due, ranFrom}
 
 -- a reading and what it is made of
 value-in : (o : Option ℤ) (m : ℤ) → readingOf o ≡ Value m → o ≡ some m
@@ -42,21 +42,20 @@ unfolding digitsFit
 few-digits φ h = leb-true (digitCount φ) mostDigits (both (leb 1 (digitCount φ)) _ (good-parts φ h .digits) .1)
 
 -- Before field i, whose positions start at byte `at` of the plan and whose characters start at byte `from` of the record: the walk over the
--- plan stands there, the fields that are left fill the record, and with what they say the values are those of the whole.
-pub record Onward (b rec : List ℕ) (values : List ℤ) (at from i : ℕ) : Type 0 where
+-- plan stands there, the fields that are left fill the record, and with what they say the values are those of the whole, which began with `first`.
+pub record Onward (b rec : List ℕ) (first values : List ℤ) (at from i : ℕ) : Type 0 where
   pub walk : Walking b i at
   pub left : from + recordLength (formsAt b i at) ≡ length rec
-  pub gives : ranFrom i values (readAll (formsAt b i at) (drop from rec)) ≡ ranOf (readAll (formsIn b) rec)
+  pub gives : ranFrom i values (readAll (formsAt b i at) (drop from rec)) ≡ ranFrom 0 first (readAll (formsIn b) rec)
 
-module _ (b rec : List ℕ) (d : Due b rec) where
-  pub starts : Onward b rec (replicate 32 (pos 0)) (3 * fieldCount b + 3) 0 0
-  unfolding ranOf
+module _ (b rec : List ℕ) (first : List ℤ) (d : Due b rec) where
+  pub starts : Onward b rec first first (3 * fieldCount b + 3) 0 0
   starts =
       let e = walk-start b in
       record { walk = walking-start b (plan-parts b (d .plan)); left = omega (arith, ap recordLength e, d .length); gives = rw (← e) }
 
-  module _ (values : List ℤ) (at from i : ℕ) (o : Onward b rec values at from i) where
-    pub ends : fieldCount b ≤ i → record { bad = 0; values = values } ≡ ranOf (readAll (formsIn b) rec)
+  module _ (values : List ℤ) (at from i : ℕ) (o : Onward b rec first values at from i) where
+    pub ends : fieldCount b ≤ i → record { bad = 0; values = values } ≡ ranFrom 0 first (readAll (formsIn b) rec)
     unfolding ranFrom readAll
     ends l = rw (walk-end b i at l) at (o .gives)
 
@@ -83,13 +82,13 @@ module _ (b rec : List ℕ) (d : Due b rec) where
             rw (x, y) at e ∙ read-in (formAt b i at) (few-digits _ (walking-good b i at (o .walk) l)) _ field-length
 
         -- CONVERSION here
-        pub stops : r ≡ Conversion → record { bad = i + 1; values = values } ≡ ranOf (readAll (formsIn b) rec)
+        pub stops : r ≡ Conversion → record { bad = i + 1; values = values } ≡ ranFrom 0 first (readAll (formsIn b) rec)
         unfolding ranFrom readAll
         stops q =
             let x : readOf (formAt b i at) (take (widthAt b i) (drop from rec)) ≡ none = none-in _ (sym reading-is ∙ q) in
             rw (walk-step b i at l, size-is, x) at (o .gives)
 
-        pub goes-on : (m : ℤ) → r ≡ Value m → Onward b rec (set values i m) (at + widthAt b i) (from + widthAt b i) (i + 1)
+        pub goes-on : (m : ℤ) → r ≡ Value m → Onward b rec first (set values i m) (at + widthAt b i) (from + widthAt b i) (i + 1)
         unfolding ranFrom readAll
         goes-on m q =
             let x : readOf (formAt b i at) (take (widthAt b i) (drop from rec)) ≡ some m = value-in _ m (sym reading-is ∙ q) in

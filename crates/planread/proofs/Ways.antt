@@ -11,7 +11,7 @@ use native.Mathlib.Omega.{arith}
 use borrow.Author.Tests.{eq-eqb, ne-eqb, lt-ltb, le-ltb}
 use lib.Dec.{eqb}
 use lib.IntN.{ℤ, pos}
-use lib.ListN.{length, getD, take, drop, set, replicate, length-take, length-set, length-map}
+use lib.ListN.{length, getD, take, drop, set, length-take, length-set, length-map}
 use lib.Seq.{take-suc, take-suc-set, drop-cons, set-at}
 use Rattle.rules.specs.declared.Answer.{Answer}
 use Rattle.rules.specs.Numbers.{badField, firstOf, later}
@@ -22,8 +22,7 @@ use Rattle.rules.specs.PlanBytes.{formsIn, isPlan}
 use Rattle.rules.specs.Candidate.{readAll}
 use Rattle.rules.proofs.Outcomes.{by-plan, record-is}
 use Rattle.rules.proofs.PlanWalk.{count-forms-in, fieldCount, plan-parts}
-use Rattle.planread.specs.declared.run.Ran.{Ran}
-use Rattle.planread.specs.Runs.{Due, planAnswer, planRow, ranFrom, ranOf}
+use Rattle.planread.specs.Runs.{Due, Ran, planAnswer, planRow, ranFrom}
 
 -- one value more
 pub copy-more : (vs d : List ℤ) (k : ℕ) → k < length vs → k < length d → set (take k vs ++ drop k d) k (getD vs k (pos 0)) ≡ take (k + 1) vs ++ drop (k + 1) d
@@ -67,9 +66,15 @@ ran-values i vs (some m ∷ os) l h =
     let k : i < length vs = omega arith in
     rw n (ran-values (i + 1) (set vs i m) os (simp length-set (omega arith)) h ∙ rw (add-one, take-suc-set vs i m k, append-assoc))
 
-ran-all : (os : List (Option ℤ)) → length os ≤ mostPictures → ranOf os .bad ≡ 0 → take (length os) (ranOf os .values) ≡ map said os
-unfolding ranOf
-ran-all os l h = rw zero-add at (ran-values 0 (replicate mostPictures (pos 0)) os (omega arith) h)
+-- the row keeps its places
+pub ran-length : (i : ℕ) (vs : List ℤ) (os : List (Option ℤ)) → length (ranFrom i vs os .values) ≡ length vs
+unfolding ranFrom
+ran-length i vs [] = refl
+ran-length i vs (none ∷ os) = refl
+ran-length i vs (some m ∷ os) = ran-length (i + 1) (set vs i m) os ∙ length-set vs i m
+
+ran-all : (vs : List ℤ) (os : List (Option ℤ)) → length os ≤ length vs → ranFrom 0 vs os .bad ≡ 0 → take (length os) (ranFrom 0 vs os .values) ≡ map said os
+ran-all vs os l h = rw zero-add at (ran-values 0 vs os (omega arith) h)
 
 length-all : (φs : List Form) (rec : List ℕ) → length (readAll φs rec) ≡ length φs
 unfolding readAll
@@ -97,10 +102,10 @@ module _ (b rec : List ℕ) (row : List ℤ) (h : isPlan b ≡ true) where
     unfolding planAnswer planRow recordAnswer rowAfter answerOver numberOver readBefore firstOf
     no-room l = rw (long-enough, count-forms-in b, lt-ltb (length row) (fieldCount b) l) (refl, refl)
 
-    module _ (l : fieldCount b ≤ length row) (r : Ran) (q : r ≡ ranOf (readAll (formsIn b) rec)) where
+    module _ (l : fieldCount b ≤ length row) (vs : List ℤ) (v : length vs ≡ mostPictures) (r : Ran) (q : r ≡ ranFrom 0 vs (readAll (formsIn b) rec)) where
       pub says-nothing : (r .bad ≡ 0 → ⊥)
           → (record { number = 10; field = r .bad; length = 0; value = pos 0 } ≡ planAnswer b rec row) × (row ≡ planRow b rec row)
-      unfolding planAnswer planRow recordAnswer rowAfter answerOver numberOver readBefore firstOf ranOf
+      unfolding planAnswer planRow recordAnswer rowAfter answerOver numberOver readBefore firstOf
       says-nothing n =
           let m = rw q at n in
           let s = stopped 0 _ (readAll (formsIn b) rec) m in
@@ -109,13 +114,13 @@ module _ (b rec : List ℕ) (row : List ℤ) (h : isPlan b ≡ true) where
 
       pub reads : r .bad ≡ 0 → (after : List ℤ) → after ≡ take (fieldCount b) (r .values) ++ drop (fieldCount b) row
           → (record { number = 0; field = 0; length = fieldCount b; value = pos 0 } ≡ planAnswer b rec row) × (after ≡ planRow b rec row)
-      unfolding planAnswer planRow recordAnswer rowAfter answerOver numberOver readBefore firstOf ranOf
+      unfolding planAnswer planRow recordAnswer rowAfter answerOver numberOver readBefore firstOf
       reads z after a =
           let os = readAll (formsIn b) rec in
           let c : length os ≡ fieldCount b = length-all (formsIn b) rec ∙ count-forms-in b in
           let m = rw q at z in
-          let vs : take (fieldCount b) (r .values) ≡ map said os = rw (q, ← c) (ran-all os (omega (arith, plan-parts b h .few)) m) in
-          rw (long-enough, count-forms-in b, le-ltb (length row) (fieldCount b) l, ran-number 0 _ os m, length-map, c) (refl, a ∙ rw vs)
+          let said-are : take (fieldCount b) (r .values) ≡ map said os = rw (q, ← c) (ran-all vs os (omega (arith, plan-parts b h .few)) m) in
+          rw (long-enough, count-forms-in b, le-ltb (length row) (fieldCount b) l, ran-number 0 _ os m, length-map, c) (refl, a ∙ rw said-are)
 
 -- By any bytes: they are refused, or the outcome is that of the layouts which have them as their plan.
 module _ (b rec : List ℕ) (row : List ℤ) (r : Answer) (after : List ℤ) where

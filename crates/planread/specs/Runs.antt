@@ -5,28 +5,29 @@ use mathlib.Core.Path.{_≡_}
 use mathlib.Core.Bool.{true}
 use mathlib.Core.List.{List, [], _∷_}
 use mathlib.Core.Option.{Option, none, some}
-use lib.IntN.{ℤ, pos}
-use lib.ListN.{length, set, replicate}
+use lib.IntN.{ℤ}
+use lib.ListN.{length, set}
 use Rattle.rules.specs.declared.Answer.{Answer}
-use Rattle.rules.specs.Layout.{mostPictures, recordLength}
+use Rattle.rules.specs.Layout.{recordLength}
 use Rattle.rules.specs.Answers.{recordAnswer, rowAfter}
 use Rattle.rules.specs.PlanBytes.{formsIn, isPlan}
 use Rattle.rules.specs.Candidate.{readAll}
-use Rattle.planread.specs.declared.run.Ran.{Ran}
 
 -- a plan, and a record of its length
 pub record Due (b rec : List ℕ) : Type 0 where
   pub plan : isPlan b ≡ true
   pub length : length rec ≡ recordLength (formsIn b)
 
+-- the 1-based first field that says nothing, or 0, and the values of the fields before it, each at its place
+pub record Ran : Type 0 where
+  pub bad : ℕ
+  pub values : List ℤ
+
 -- from field i on, with what the fields before it say in `values`: each value goes to its place, up to a field that says nothing
 unfoldable pub ranFrom : ℕ → List ℤ → List (Option ℤ) → Ran
 ranFrom i values [] = record { bad = 0; values = values }
 ranFrom i values (none ∷ os) = record { bad = i + 1; values = values }
 ranFrom i values (some m ∷ os) = ranFrom (i + 1) (set values i m) os
-
-unfoldable pub ranOf : List (Option ℤ) → Ran
-ranOf os = ranFrom 0 (replicate mostPictures (pos 0)) os
 
 -- the candidate's outcome by bytes that are a plan: the answer, and the row
 unfoldable pub planAnswer : List ℕ → List ℕ → List ℤ → Answer

@@ -4,7 +4,6 @@ mod run; // run.rt: the fields of a record, one after the other
 
 use plan::is_plan;
 use rules::Answer;
-use run::Ran;
 use run::run_fields;
 ghost use mathlib.Core.Path.{_≡_};
 ghost use mathlib.Core.Bool.{true};
@@ -29,11 +28,10 @@ fn refused(number: u8, field: u8) -> Answer
 }
 
 // The first `count` values into the first places of the row.
-fn copy_row(ran: Ran, count: usize, row: &mut [i64])
-    requires { ⌜ (count ≤ 32) × (count ≤ length (now row)) ⌝ }
-    ensures { λ _. ⌜ now (row .exit) ≡ take count (ran .values) ++ drop count (now (row .entry)) ⌝ }
+fn copy_row(values: &[i64], count: usize, row: &mut [i64])
+    requires { ⌜ (count ≤ length (now values)) × (count ≤ length (now row)) ⌝ }
+    ensures { λ _. ⌜ now (row .exit) ≡ take count (now (values .entry)) ++ drop count (now (row .entry)) ⌝ }
 {
-    let values = ran.values;
     for k in 0..count {
         row[k] = values[k];
     }
@@ -54,12 +52,12 @@ fn read_record(plan: &[u8], record: &[u8], row: &mut [i64]) -> Answer
     if row.len() < count {
         return refused(7, 0);
     }
-    let ran = run_fields(plan, record);
-    let bad = ran.bad;
+    let mut values = [0i64; 32];
+    let bad = run_fields(plan, record, &mut values);
     if bad != 0 {
         return refused(10, bad);
     }
-    copy_row(ran, count, row);
+    copy_row(&values, count, row);
     Answer {
         number: 0,
         field: 0,

@@ -1,25 +1,18 @@
-// The fields of a record, one after the other, each by its part of the plan. What they say is kept by value: the row is not touched
-// before the last of them has been read.
+// The fields of a record, one after the other, each by its part of the plan. What they say goes to a row of the runner's own: the
+// caller's is not touched before the last of them has been read.
 use rules::Reading;
 ghost use mathlib.Core.Path.{_≡_};
 ghost use Rattle.rules.specs.PlanBytes.{formsIn};
 ghost use Rattle.rules.specs.Candidate.{readAll};
-ghost use Rattle.planread.specs.Runs.{Due, ranOf};
-
-// The 1-based first field that says nothing, or 0; and what the fields before it say, each at its place. The other places are 0.
-pub(crate) struct Ran {
-    pub bad: u8,
-    pub values: [i64; 32],
-}
+ghost use Rattle.planread.specs.Runs.{Due, ranFrom};
 
 // Field i has its header in the plan's bytes 1 + 3 * i to 3 + 3 * i, its positions from byte `at` on, and its characters in the record
-// from byte `from` on.
-pub(crate) fn run_fields(plan: &[u8], record: &[u8]) -> Ran
+// from byte `from` on. Each value goes to its place; the answer is the 1-based first field that says nothing, or 0.
+pub(crate) fn run_fields(plan: &[u8], record: &[u8], values: &mut [i64; 32]) -> u8
     requires { ⌜ Due (now plan) (now «record») ⌝ }
-    ensures { λ r. ⌜ r ≡ ranOf (readAll (formsIn (now (plan .entry))) (now («record» .entry))) ⌝ }
+    ensures { λ r. ⌜ record { bad = r; values = now (values .exit) } ≡ ranFrom 0 (now (values .entry)) (readAll (formsIn (now (plan .entry))) (now («record» .entry))) ⌝ }
 {
     let count = plan[0] as usize;
-    let mut values = [0i64; 32];
     let mut at = 3 * count + 3;
     let mut from: usize = 0;
     for i in 0..count {
@@ -34,14 +27,11 @@ pub(crate) fn run_fields(plan: &[u8], record: &[u8]) -> Ran
                 values[i] = m;
             }
             Reading::Conversion => {
-                return Ran {
-                    bad: i as u8 + 1,
-                    values,
-                };
+                return i as u8 + 1;
             }
         }
         at = end;
         from = to;
     }
-    Ran { bad: 0, values }
+    0
 }

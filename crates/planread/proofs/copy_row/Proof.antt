@@ -14,22 +14,21 @@ use Rattle.planread.proofs.copy_row.Statement.{statement}
 use Rattle.planread.proofs.copy_row.Tie as tie
 
 abbrev Inv-loop : tie.InvT-loop
-Inv-loop count row₀ values k₀ row k = (k ≤ count) × (length row ≡ length row₀) × (row ≡ take k values ++ drop k row₀)
+Inv-loop values count row₀ k₀ row k = (k ≤ count) × (length row ≡ length row₀) × (row ≡ take k values ++ drop k row₀)
 
 abbrev μ-loop : tie.MeasureT-loop
-μ-loop count row₀ values k₀ row k = count - k
+μ-loop values count row₀ k₀ row k = count - k
 
 loop-again : tie.Need-loop-again Inv-loop μ-loop
 loop-again c =
-    let s = c .before .before .before .before in
-    let l : length (s .args .ran .values) ≡ 32 = search needs in
+    let s = c .before .before .before in
     let k = c .before .before .loop .k in
-    let f : SFits w64 (getD (s .args .ran .values) k (pos 0)) = search needs in
-    (search needs, simp length-set (c .before .before .loop .inv .1), rw (toZ-ofZ f, c .before .before .loop .inv .2) (copy-more (s .args .ran .values) (s .args .row .now) k (omega arith) (omega arith)))
+    let f : SFits w64 (getD (s .args .values .now) k (pos 0)) = search needs in
+    (search needs, simp length-set (c .before .before .loop .inv .1), rw (toZ-ofZ f, c .before .before .loop .inv .2) (copy-more (s .args .values .now) (s .args .row .now) k (omega arith) (omega arith)))
 
 returns : tie.Need-returns Inv-loop μ-loop
 returns c =
-    let e : c .before .loop .k ≡ c .before .before .before .args .count = omega arith in
+    let e : c .before .loop .k ≡ c .before .before .args .count = omega arith in
     c .before .loop .inv .2 ∙ rw e
 
 pub copy-row-spec : {M : Type 1} → statement M

@@ -1,9 +1,10 @@
 -- `planread::read_record` meets its contract: each way through it is a law of Ways. Assumes nothing.
-use mathlib.Core.Path.{_∙_}
+use mathlib.Core.Path.{refl, sym, ap, _∙_}
 use borrow.Author.Needs.{needs}
 use native.Mathlib.Omega.{arith}
+use lib.ListN.{length}
 use Rattle.rules.proofs.PlanWalk.{plan-parts}
-use Rattle.planread.proofs.Ways.{due, no-room, other-length, reads, says-nothing}
+use Rattle.planread.proofs.Ways.{due, no-room, other-length, ran-length, reads, says-nothing}
 use Rattle.planread.proofs.read_record.Statement.{statement}
 use Rattle.planread.proofs.read_record.Tie as tie
 
@@ -37,30 +38,35 @@ returns-2 c =
 
 run-fields-requires : tie.Need-run-fields-requires
 run-fields-requires c κs =
-    let e = c .before in
+    let e = c .before .before in
     let a = e .before .before .before .before in
     due _ _ (a .args .row .now) (a .pre) (e .if1 .left)
 
 returns-3 : tie.Need-returns-3
 returns-3 c =
     let f = c .before .before in
-    let e = f .before .before in
+    let e = f .before .before .before in
     let a = e .before .before .before .before in
-    let w = says-nothing _ _ (a .args .row .now) (a .pre) (e .if1 .left) (f .before .if2 .left) _ (f .run-fields .ensures) (λ z. omega arith) in
+    let w = says-nothing _ _ (a .args .row .now) (a .pre) (e .if1 .left) (f .before .before .if2 .left) _ refl _ (f .run-fields .ensures) (λ z. omega arith) in
     (c .refused3 .ensures ∙ w .0, w .1)
+
+-- the row that was lent to the run has its places still
+slice-aggregate-copy-row : tie.Need-slice-aggregate-copy-row
+slice-aggregate-copy-row c = sym (ap (λ r. length (r .values)) (c .before .before .run-fields .ensures) ∙ ran-length 0 _ _)
 
 copy-row-requires : tie.Need-copy-row-requires
 copy-row-requires c κs =
-    let f = c .before .before in
-    let a = f .before .before .before .before .before .before in
-    (omega (arith, plan-parts _ (a .pre) .few), search needs)
+    let f = c .before .before .before in
+    let a = f .before .before .before .before .before .before .before in
+    let l = ap (λ r. length (r .values)) (f .run-fields .ensures) ∙ ran-length 0 _ _ in
+    (omega (arith, plan-parts _ (a .pre) .few, l), search needs)
 
 returns-4 : tie.Need-returns-4
 returns-4 c =
-    let f = c .before .before .before .before in
-    let e = f .before .before in
+    let f = c .before .before .before .before .before in
+    let e = f .before .before .before in
     let a = e .before .before .before .before in
-    reads _ _ (a .args .row .now) (a .pre) (e .if1 .left) (f .before .if2 .left) _ (f .run-fields .ensures) (omega arith) _ (c .before .copy-row .ensures)
+    reads _ _ (a .args .row .now) (a .pre) (e .if1 .left) (f .before .before .if2 .left) _ refl _ (f .run-fields .ensures) (omega arith) _ (c .before .copy-row .ensures)
 
 pub read-record-spec : {M : Type 1} → statement M
 read-record-spec =
@@ -78,6 +84,7 @@ read-record-spec =
     run-fields-requires
     (λ c κs. search needs)
     returns-3
+    slice-aggregate-copy-row
     copy-row-requires
     (λ c. search needs)
     returns-4)

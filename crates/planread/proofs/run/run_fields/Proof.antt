@@ -14,10 +14,11 @@ use Rattle.planread.proofs.run.run_fields.Statement.{statement}
 use Rattle.planread.proofs.run.run_fields.Tie as tie
 
 abbrev Inv-loop : tie.InvT-loop
-Inv-loop plan «record» count values₀ at₀ from₀ i₀ values at from i = (i ≤ count) × (count ≡ fieldCount plan) × (count ≤ 32) × (3 * count + 3 ≤ at) × Onward plan «record» values at from i
+Inv-loop plan «record» values₀ count at₀ from₀ i₀ values at from i =
+    (i ≤ count) × (count ≡ fieldCount plan) × (count ≤ 32) × (3 * count + 3 ≤ at) × Onward plan «record» values₀ values at from i
 
 abbrev μ-loop : tie.MeasureT-loop
-μ-loop plan «record» count values₀ at₀ from₀ i₀ values at from i = count - i
+μ-loop plan «record» values₀ count at₀ from₀ i₀ values at from i = count - i
 
 shared-slice-read-count : tie.Need-shared-slice-read-count Inv-loop μ-loop
 shared-slice-read-count c = let p = plan-parts _ (c .before .before .before .pre .plan) in omega (arith, p .size)
@@ -34,7 +35,7 @@ add-at c = let p = plan-parts _ (c .before .before .before .pre .plan) in omega 
 loop-holds : tie.Need-loop-holds Inv-loop μ-loop
 loop-holds c =
     let p = plan-parts _ (c .before .before .before .pre .plan) in
-    (search needs, refl, p .few, search needs, starts _ _ (c .before .before .before .pre))
+    (search needs, refl, p .few, search needs, starts _ _ _ (c .before .before .before .pre))
 
 -- the field's positions stand in the plan, and its characters in the record
 within : (c : tie.In-loop Inv-loop μ-loop)
@@ -42,7 +43,7 @@ within : (c : tie.In-loop Inv-loop μ-loop)
     × (c .before .loop .from + widthAt (c .before .before .before .before .before .args .plan .now) (c .before .loop .i) ≤ length (c .before .before .before .before .before .args .«record» .now))
 within c =
     let a = c .before .before .before .before .before in
-    part-fits _ _ (a .pre) _ _ _ _ (c .before .loop .inv .4) (c .loop-test .taken)
+    part-fits _ _ _ (a .pre) _ _ _ _ (c .before .loop .inv .4) (c .loop-test .taken)
 
 cast-n : tie.Need-cast-n Inv-loop μ-loop
 cast-n c = omega (arith, c .shared-slice-known4 .given (1 + 3 * c .before .before .loop .i))
@@ -66,19 +67,19 @@ returns : tie.Need-returns Inv-loop μ-loop
 returns c =
     let t = c .before .before .before .before .before .before .before .before in
     let a = t .before .before .before .before .before in
-    stops _ _ (a .pre) _ _ _ _ (t .before .loop .inv .4) (t .loop-test .taken) _ (c .before .before .read .ensures) (c .enum-told .given .1)
+    stops _ _ _ (a .pre) _ _ _ _ (t .before .loop .inv .4) (t .loop-test .taken) _ (c .before .before .read .ensures) (c .enum-told .given .1)
 
 loop-again : tie.Need-loop-again Inv-loop μ-loop
 loop-again c =
     let t = c .before .before .before .before .before .before .before .before .before in
     let a = t .before .before .before .before .before in
     let f : SFits w64 (c .before .reading .given .0 .0) = search needs in
-    (search needs, refl, search needs, search needs, rw (toZ-ofZ f) (goes-on _ _ (a .pre) _ _ _ _ (t .before .loop .inv .4) (t .loop-test .taken) _ (c .before .before .before .read .ensures) _ (c .before .reading .given .1)))
+    (search needs, refl, search needs, search needs, rw (toZ-ofZ f) (goes-on _ _ _ (a .pre) _ _ _ _ (t .before .loop .inv .4) (t .loop-test .taken) _ (c .before .before .before .read .ensures) _ (c .before .reading .given .1)))
 
 returns-2 : tie.Need-returns-2 Inv-loop μ-loop
 returns-2 c =
     let a = c .before .before .before .before .before in
-    ends _ _ (a .pre) _ _ _ _ (c .before .loop .inv .4) (c .loop-test .left)
+    ends _ _ _ (a .pre) _ _ _ _ (c .before .loop .inv .4) (c .loop-test .left)
 
 pub run-fields-spec : {M : Type 1} → statement M
 run-fields-spec =
