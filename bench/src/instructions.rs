@@ -1,63 +1,86 @@
-//! Instructions a call, counted by valgrind's callgrind: the same in every run on the same machine, however busy it is.
+//! Instructions a field, counted by valgrind's callgrind: the same in every run on the same machine, however busy it is.
 //!
-//! The program has callgrind run itself, making the calls of a few passes and of some more; the difference belongs to the calls.
+//! The program has callgrind run itself. That run makes each pass twice, once to bind symbols and to fill what the sides keep, and
+//! once counted; callgrind writes a file for each count.
 
-use crate::sides::{Side, LIBRARY, SECOND};
-use crate::work::{Call, Work, CALLS, PICTURES, RECORDS_A_LAYOUT, SIZES};
+use crate::callgrind;
+use crate::layouts::SIZES;
+use crate::sides::{Call, Side, CALLS};
+use crate::table;
+use crate::work::Work;
 use std::process::Command;
 
-const FEW: usize = 1;
-const MORE: usize = 3;
+/// The records of a pass.
+const COUNTED: usize = 256;
 
-/// Counts and prints the table.
-pub fn print() -> Result<(), String> {
-    println!("INSTRUCTIONS by valgrind --tool=callgrind.\n");
-    println!("{:20}  {:^20}  {:^20}  {:>10}", "", "library", "second program", "library /");
-    println!(
-        "{:12}{:>8}  {:>10}{:>10}  {:>10}{:>10}  {:>10}",
-        "call", "fields", "a call", "a field", "a call", "a field", "second"
-    );
+/// Counts and prints the table. The files of callgrind begin with this name.
+pub fn print(files: &str) -> Result<(), String> {
+    Work::agreed()?;
+    run_counted(files)?;
+    println!("INSTRUCTIONS: a field, by valgrind --tool=callgrind.\n");
+    table::print_head(&["ratio"]);
     for call in CALLS {
         for fields in SIZES {
-            let (library, second) = (a_call(&LIBRARY, call, fields)?, a_call(&SECOND, call, fields)?);
-            let a_field = |count: f64| count / fields as f64;
-            print!("{:12}{:>8}", call.name(), fields);
-            print!("  {:>10.0}{:>10.0}", library, a_field(library));
-            print!("  {:>10.0}{:>10.0}", second, a_field(second));
-            println!("  {:>10.3}", library / second);
+            let mut figures = Vec::new();
+            for &side in call.sides() {
+                let count = count_in(&format!("{files}.{}", place(fields, call, side)))?;
+                figures.push((side, count as f64 / (COUNTED * fields) as f64));
+            }
+            print_line(call, fields, &figures);
         }
     }
     Ok(())
 }
 
-fn a_call(side: &Side, call: Call, fields: usize) -> Result<f64, String> {
-    let calls = (MORE - FEW) * RECORDS_A_LAYOUT * PICTURES.len();
-    let more = counted(side, call, fields, MORE)? - counted(side, call, fields, FEW)?;
-    Ok(more as f64 / calls as f64)
+fn print_line(call: Call, fields: usize, figures: &[(Side, f64)]) {
+    let of = |side: Side| figures.iter().find(|figure| figure.0 == side).map(|figure| figure.1);
+    let cobol = table::faster_move(call, |side| of(side).unwrap_or(f64::INFINITY));
+    let ratio = |other: Option<f64>| -> Vec<f64> {
+        of(Side::Library).zip(other).map(|(own, other)| own / other).into_iter().collect()
+    };
+    let figures = [of(Side::Library), of(Side::Fast), of(Side::Inner), cobol.and_then(of)];
+    table::print_line(call, fields, figures, [&ratio(figures[1]), &ratio(figures[3])]);
 }
 
-/// The instructions of a whole run of this program that makes so many passes.
-fn counted(side: &Side, call: Call, fields: usize, passes: usize) -> Result<u64, String> {
+/// Which of the counts, from 1 on, is that of a side.
+fn place(fields: usize, call: Call, side: Side) -> usize {
+    let all = all_counts().position(|count| count == (fields, call, side));
+    1 + all.expect("a side that makes the call")
+}
+
+/// All counts in their order.
+fn all_counts() -> impl Iterator<Item = (usize, Call, Side)> {
+    let calls = SIZES.into_iter().flat_map(|fields| CALLS.into_iter().map(move |call| (fields, call)));
+    calls.flat_map(|(fields, call)| call.sides().iter().map(move |&side| (fields, call, side)))
+}
+
+fn run_counted(files: &str) -> Result<(), String> {
     let own = std::env::current_exe().map_err(|error| error.to_string())?;
     let output = Command::new("valgrind")
-        .args(["--tool=callgrind", "--callgrind-out-file=/dev/null"])
+        .args(["--tool=callgrind", "--instr-atstart=no"])
+        .arg(format!("--callgrind-out-file={files}"))
         .arg(own)
-        .args(["repeat", side.name, call.name()])
-        .args([fields, passes].map(|number| number.to_string()))
+        .arg("count")
         .output()
         .map_err(|error| format!("valgrind: {error}"))?;
     let said = String::from_utf8_lossy(&output.stderr);
-    let count = said.lines().find_map(|line| line.split_once("Collected : ")?.1.trim().parse().ok());
-    count.filter(|_| output.status.success()).ok_or(format!("callgrind said: {said}"))
+    output.status.success().then_some(()).ok_or(format!("callgrind said: {said}"))
 }
 
-/// Makes the passes and nothing else, to be counted.
-pub fn repeat(side: &str, call: &str, fields: &str, passes: &str) -> Option<()> {
-    let side = [LIBRARY, SECOND].into_iter().find(|known| known.name == side)?;
-    let call = CALLS.into_iter().find(|known| known.name() == call)?;
-    let mut work = Work::of_size(fields.parse().ok().filter(|fields| SIZES.contains(fields))?);
-    for _ in 0..passes.parse::<usize>().ok()? {
-        work.pass(&side, call);
+/// The instructions that a file of callgrind's counts.
+fn count_in(file: &str) -> Result<u64, String> {
+    let text = std::fs::read_to_string(file).map_err(|error| format!("{file}: {error}"))?;
+    let count = text.lines().find_map(|line| line.strip_prefix("summary: ")?.trim().parse().ok());
+    count.ok_or(format!("{file} has no count"))
+}
+
+/// The run that is counted.
+pub fn count() -> Result<(), String> {
+    let mut works = Work::all();
+    for (fields, call, side) in all_counts() {
+        let work = works.iter_mut().find(|work| work.data.fields == fields).expect("a work of every size");
+        work.pass(side, call, COUNTED);
+        callgrind::counted(|| work.pass(side, call, COUNTED));
     }
-    Some(())
+    Ok(())
 }

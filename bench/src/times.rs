@@ -1,124 +1,113 @@
-//! Times from one run. A round times every call at every size, the library and the second program in turn, so that whatever else
-//! the machine does falls on all of them alike.
+//! Times from one run. A round times every call at every size, all sides in turn, so that whatever else the machine does falls on
+//! all of them alike; each round begins with the next side.
 
-use crate::sides::{Side, LIBRARY, SECOND};
-use crate::work::{Call, Work, CALLS, SIZES};
-use std::time::{Duration, Instant};
+use crate::clock;
+use crate::layouts::RECORDS;
+use crate::sides::{Call, Side, CALLS};
+use crate::table;
+use crate::work::Work;
+use std::hint::black_box;
 
-/// A round takes at least this long for each call, size and side.
-const LEAST: Duration = Duration::from_millis(2);
+/// A round takes about so many nanoseconds for each call, size and side, or one pass where that takes longer.
+const ROUND: f64 = 1e6;
 
-/// The times of one call at one size, in nanoseconds a call, one for each round.
+/// The times of one call at one size.
 struct Series {
     call: Call,
-    fields: usize,
-    library: Vec<f64>,
-    second: Vec<f64>,
-    /// How many passes of each side make a round.
-    passes: [usize; 2],
+    /// Which of the works.
+    size: usize,
+    sides: Vec<Times>,
 }
 
-/// Measures and prints all tables.
-pub fn print(rounds: usize) {
-    let all = measured(rounds);
-    println!("TIME in nanoseconds: the best of {rounds} rounds of each side, taken in turn in one run.");
-    println!("The lent memory is not cleared between calls.\n");
-    print_times(&all);
-    println!("\nGROWTH of the time of a call from layouts of 1 field to layouts of 4 and of 32.");
-    println!("Less than 4 and 32 times: a call has a cost of its own beside that of its fields.\n");
-    print_growth(&all);
+/// The times of one side, in nanoseconds a field, one for each round.
+struct Times {
+    side: Side,
+    /// How many passes over all records make a round.
+    passes: usize,
+    rounds: Vec<f64>,
 }
 
-/// The series of every call at every size, by calls.
-fn measured(rounds: usize) -> Vec<Series> {
-    let mut works = SIZES.map(Work::of_size);
-    works.iter_mut().for_each(Work::verify);
+/// Measures and prints the table.
+pub fn print(rounds: usize) -> Result<(), String> {
+    let mut works = Work::agreed()?;
+    let all = measured(&mut works, rounds);
+    println!("TIME: nanoseconds of processor time a field, the best of {rounds} rounds.");
+    println!("judged before: the fast Rust by a plan judged beforehand. GnuCOBOL: the faster of its two moves.\n");
+    table::print_head(&["best", "median"]);
+    for series in &all {
+        series.print(works[series.size].data.fields);
+    }
+    Ok(())
+}
+
+fn measured(works: &mut [Work; 3], rounds: usize) -> Vec<Series> {
     let mut all = Vec::new();
     for call in CALLS {
-        for (work, fields) in works.iter_mut().zip(SIZES) {
-            all.push(Series::new(work, call, fields));
+        for (size, work) in works.iter_mut().enumerate() {
+            let sides = call.sides().iter().map(|&side| Times::new(work, side, call)).collect();
+            all.push(Series { call, size, sides });
         }
     }
-    for _ in 0..rounds {
-        for (k, series) in all.iter_mut().enumerate() {
-            series.round(&mut works[k % SIZES.len()]);
+    for round in 0..rounds {
+        for Series { call, size, sides } in &mut all {
+            for k in 0..sides.len() {
+                let next = (round + k) % sides.len();
+                sides[next].round(&mut works[*size], *call);
+            }
         }
     }
     all
 }
 
+impl Times {
+    fn new(work: &mut Work, side: Side, call: Call) -> Times {
+        let once = time(work, side, call, 1);
+        Times { side, passes: (ROUND / once) as usize + 1, rounds: Vec::new() }
+    }
+
+    fn round(&mut self, work: &mut Work, call: Call) {
+        let fields = self.passes * RECORDS * work.data.fields;
+        self.rounds.push(time(work, self.side, call, self.passes) / fields as f64);
+    }
+
+    fn best(&self) -> f64 {
+        self.rounds.iter().copied().fold(f64::INFINITY, f64::min)
+    }
+}
+
 impl Series {
-    fn new(work: &mut Work, call: Call, fields: usize) -> Series {
-        let passes = [LIBRARY, SECOND].map(|side| passes_for(work, &side, call));
-        Series { call, fields, library: Vec::new(), second: Vec::new(), passes }
+    fn of(&self, side: Side) -> Option<&Times> {
+        self.sides.iter().find(|times| times.side == side)
     }
 
-    fn round(&mut self, work: &mut Work) {
-        self.library.push(a_call(work, &LIBRARY, self.call, self.passes[0]));
-        self.second.push(a_call(work, &SECOND, self.call, self.passes[1]));
+    fn best(&self, side: Side) -> Option<f64> {
+        self.of(side).map(Times::best)
     }
 
-    fn best(&self) -> (f64, f64) {
-        (least(&self.library), least(&self.second))
+    /// The library's time by that of a side: of the best rounds, and the median over neighbouring rounds.
+    fn ratios(&self, other: Option<Side>) -> Vec<f64> {
+        let (Some(library), Some(other)) = (self.of(Side::Library), other.and_then(|side| self.of(side))) else {
+            return Vec::new();
+        };
+        let mut quotients: Vec<f64> =
+            library.rounds.iter().zip(&other.rounds).map(|(own, other)| own / other).collect();
+        quotients.sort_by(f64::total_cmp);
+        vec![library.best() / other.best(), quotients[quotients.len() / 2]]
     }
 
-    /// The median over the rounds of the library's time by that of the second program next to it.
-    fn median_ratio(&self) -> f64 {
-        let mut ratios: Vec<f64> = self.library.iter().zip(&self.second).map(|(l, s)| l / s).collect();
-        ratios.sort_by(f64::total_cmp);
-        ratios[ratios.len() / 2]
+    fn print(&self, fields: usize) {
+        let cobol = table::faster_move(self.call, |side| self.best(side).unwrap_or(f64::INFINITY));
+        let best = |side| self.best(side);
+        let figures = [best(Side::Library), best(Side::Fast), best(Side::Inner), cobol.and_then(best)];
+        table::print_line(self.call, fields, figures, [&self.ratios(Some(Side::Fast)), &self.ratios(cobol)]);
     }
 }
 
-/// How many passes take long enough for the clock.
-fn passes_for(work: &mut Work, side: &Side, call: Call) -> usize {
-    let mut passes = 1;
-    while time(work, side, call, passes) < LEAST {
-        passes *= 2;
-    }
-    passes
-}
-
-/// Nanoseconds a call, over so many passes.
-fn a_call(work: &mut Work, side: &Side, call: Call, passes: usize) -> f64 {
-    time(work, side, call, passes).as_nanos() as f64 / (passes * work.calls()) as f64
-}
-
-fn time(work: &mut Work, side: &Side, call: Call, passes: usize) -> Duration {
-    let begin = Instant::now();
+/// Nanoseconds of so many passes.
+fn time(work: &mut Work, side: Side, call: Call, passes: usize) -> f64 {
+    let begin = clock::now();
     for _ in 0..passes {
-        work.pass(side, call);
+        black_box(work.pass(side, call, RECORDS));
     }
-    begin.elapsed()
-}
-
-fn least(times: &[f64]) -> f64 {
-    times.iter().copied().fold(f64::INFINITY, f64::min)
-}
-
-fn print_times(all: &[Series]) {
-    println!("{:20}  {:^20}  {:^20}  {:^20}", "", "library", "second program", "library / second");
-    println!(
-        "{:12}{:>8}  {:>10}{:>10}  {:>10}{:>10}  {:>10}{:>10}",
-        "call", "fields", "a call", "a field", "a call", "a field", "best", "median"
-    );
-    for series in all {
-        let (library, second) = series.best();
-        let a_field = |time: f64| time / series.fields as f64;
-        print!("{:12}{:>8}", series.call.name(), series.fields);
-        print!("  {:>10.1}{:>10.1}", library, a_field(library));
-        print!("  {:>10.1}{:>10.1}", second, a_field(second));
-        println!("  {:>10.3}{:>10.3}", library / second, series.median_ratio());
-    }
-}
-
-fn print_growth(all: &[Series]) {
-    println!("{:20}  {:^20}  {:^20}", "", "library", "second program");
-    println!("{:20}  {:>10}{:>10}  {:>10}{:>10}", "call", "1 to 4", "1 to 32", "1 to 4", "1 to 32");
-    for own in all.chunks(SIZES.len()) {
-        let [one, four, most] = [&own[0], &own[1], &own[2]].map(Series::best);
-        print!("{:20}", own[0].call.name());
-        print!("  {:>10.1}{:>10.1}", four.0 / one.0, most.0 / one.0);
-        println!("  {:>10.1}{:>10.1}", four.1 / one.1, most.1 / one.1);
-    }
+    clock::now() - begin
 }

@@ -1,140 +1,130 @@
-//! What is timed: accepted layouts of one size with rows and records that fit them, and the calls on these.
-//!
-//! A size has five layouts, each beginning with another of the five pictures and going round, so that every size has the same
-//! mix of pictures and the times per field can be compared between sizes.
+//! What is timed: the calls of each side on the data of one size.
 
-use crate::sides::{Side, LIBRARY, SECOND};
-use second::collector;
-use second::layouts_and_plans::pictures_of_layout;
-use second::make::{random::Random, values};
+use crate::cobol::{moves, Moves};
+use crate::data::{Data, Dice, MOST_PLAN};
+use crate::layouts::{RECORDS, SIZES};
+use crate::sides::{Call, Calls, Side, CALLS, FAST, LIBRARY};
+use fast::inner::Judged;
 use std::hint::black_box;
 
-pub const PICTURES: [&str; 5] = ["ZZ,ZZ9V.99", "$$,$$9V.99CR", "-(6)9", "***9", "S999V99"];
-pub const SIZES: [usize; 3] = [1, 4, 32];
-pub const RECORDS_A_LAYOUT: usize = 8;
-const SEED: u64 = 1;
-const MOST_BYTES: usize = 1 + 3 * 32 + 2 + 2048;
-
-#[derive(Clone, Copy, PartialEq, Eq)]
-pub enum Call {
-    Compile,
-    PlanRead,
-    PlanEdit,
-}
-
-pub const CALLS: [Call; 3] = [Call::Compile, Call::PlanRead, Call::PlanEdit];
-
-impl Call {
-    pub fn name(self) -> &'static str {
-        match self {
-            Call::Compile => "compile",
-            Call::PlanRead => "plan read",
-            Call::PlanEdit => "plan edit",
-        }
-    }
-}
-
-/// A layout with its plan, a row that fits it and the record of that row.
-struct Task {
-    layout: Vec<u8>,
-    plan: Vec<u8>,
-    row: Vec<u8>,
-    record: Vec<u8>,
-}
-
-/// The tasks of one size and the memory that is lent to their calls. It is never cleared: each call finds there what the call
-/// before it left.
+/// The data and what is lent to the calls. A call finds there what the call before it left.
 pub struct Work {
-    tasks: Vec<Task>,
-    room: Vec<u8>,
+    pub data: Data,
+    judged: Judged,
+    moves: Option<Moves>,
+    lent: Vec<u8>,
 }
+
+/// A call by a judged plan.
+type ByJudged = fn(&Judged, &[u8], &mut [u8]) -> u64;
 
 impl Work {
-    pub fn of_size(fields: usize) -> Work {
-        let mut random = Random::new(SEED);
-        let mut tasks = Vec::new();
-        for _ in 0..RECORDS_A_LAYOUT {
-            for first in 0..PICTURES.len() {
-                tasks.push(Task::new(layout_from(first, fields), &mut random));
+    /// The work of every size.
+    pub fn all() -> [Work; 3] {
+        let mut dice = Dice::new();
+        SIZES.map(|fields| Work::new(Data::of_size(fields, &mut dice)))
+    }
+
+    /// The work of every size, if all sides agree on it.
+    pub fn agreed() -> Result<[Work; 3], String> {
+        let mut works = Work::all();
+        works.iter_mut().try_for_each(Work::agree)?;
+        Ok(works)
+    }
+
+    fn new(data: Data) -> Work {
+        let judged = Judged::of(&data.plan).expect("a plan");
+        let most = data.rows.len().max(data.records.len()).max(MOST_PLAN);
+        Work { judged, moves: moves(data.fields), lent: vec![0; most], data }
+    }
+
+    /// Makes the call for the first records, one by one, and adds up the answers; COBOL gives none.
+    pub fn pass(&mut self, side: Side, call: Call, records: usize) -> u64 {
+        match side {
+            Side::Library => self.by_calls(black_box(LIBRARY), call, records),
+            Side::Fast => self.by_calls(black_box(FAST), call, records),
+            Side::Inner => self.by_judged(call, records),
+            Side::Binary | Side::Display => self.by_moves(side, call, records),
+        }
+    }
+
+    fn by_calls(&mut self, calls: Calls, call: Call, records: usize) -> u64 {
+        let Work { data, lent, .. } = self;
+        let (row, record) = (data.row_length(), data.record_length());
+        match call {
+            Call::Compile => (0..records).map(|_| calls.compile(&data.layout, &mut lent[..MOST_PLAN])).sum(),
+            Call::PlanRead => {
+                let each = data.records.chunks_exact(record).zip(lent.chunks_exact_mut(row));
+                each.take(records).map(|(record, row)| calls.plan_read(&data.plan, record, row)).sum()
+            }
+            Call::PlanEdit => {
+                let each = data.rows.chunks_exact(row).zip(lent.chunks_exact_mut(record));
+                each.take(records).map(|(row, record)| calls.plan_edit(&data.plan, row, record)).sum()
             }
         }
-        Work { tasks, room: vec![0; MOST_BYTES] }
     }
 
-    /// The calls of one pass.
-    pub fn calls(&self) -> usize {
-        self.tasks.len()
+    fn by_judged(&mut self, call: Call, records: usize) -> u64 {
+        let Work { data, judged, lent, .. } = self;
+        let (row, record) = (data.row_length(), data.record_length());
+        let (run, from, from_length, length): (ByJudged, _, _, _) = match call {
+            Call::PlanRead => (Judged::read, &data.records, record, row),
+            _ => (Judged::edit, &data.rows, row, record),
+        };
+        let run = black_box(run);
+        let each = from.chunks_exact(from_length).zip(lent.chunks_exact_mut(length));
+        each.take(records).map(|(from, into)| run(judged, from, into)).sum()
     }
 
-    /// Makes the call once for every task.
-    pub fn pass(&mut self, side: &Side, call: Call) {
-        for task in &self.tasks {
-            black_box(task.run(side, call, black_box(&mut self.room)));
-        }
+    fn by_moves(&mut self, side: Side, call: Call, records: usize) -> u64 {
+        let Work { data, moves, lent, .. } = self;
+        let moves = moves.expect("sides with COBOL");
+        let lent = lent.as_mut_ptr();
+        let (rows, displays, all) = (data.rows.as_ptr(), data.displays.as_ptr(), data.records.as_ptr());
+        let (run, numbers, fields) = match (side, call) {
+            (Side::Binary, Call::PlanRead) => (moves.read_binary, lent, all.cast_mut()),
+            (_, Call::PlanRead) => (moves.read_display, lent, all.cast_mut()),
+            (Side::Binary, _) => (moves.edit_binary, rows.cast_mut(), lent),
+            _ => (moves.edit_display, displays.cast_mut(), lent),
+        };
+        let count = records as i32;
+        // In bounds: both are as long as all records need, and a move writes only what it moves to, which is lent.
+        unsafe { run(&count, numbers, fields) };
+        0
     }
 
-    /// Stops the program unless both sides give the answer and the bytes that the tasks were made with.
-    pub fn verify(&mut self) {
-        for side in [LIBRARY, SECOND] {
-            for call in CALLS {
-                for task in &self.tasks {
-                    self.room.fill(0);
-                    let answer = task.run(&side, call, &mut self.room);
-                    let right = answer == task.answer(call) && self.room.starts_with(task.written(call));
-                    assert!(right, "{}: {} of {:?}", side.name, call.name(), String::from_utf8_lossy(&task.layout));
+    /// Holds every side to what the second program answers and writes, on every record.
+    fn agree(&mut self) -> Result<(), String> {
+        for call in CALLS {
+            for &side in call.sides() {
+                self.lent.fill(0xa5);
+                let answers = self.pass(side, call, RECORDS);
+                if answers != self.answers(side, call) || !self.lent.starts_with(self.written(side, call)) {
+                    return Err(format!("{side:?} differs: {} of {} fields", call.name(), self.data.fields));
                 }
             }
         }
-    }
-}
-
-impl Task {
-    fn new(layout: Vec<u8>, random: &mut Random) -> Task {
-        let pictures = pictures_of_layout(&layout).expect("an accepted layout");
-        let numbers: Vec<i64> = pictures.iter().map(|picture| values::fitting(random, picture)).collect();
-        let row = collector::bytes(&numbers);
-        let plan = made(|room| collector::compile(&layout, room));
-        let record = made(|room| collector::plan_edit(&plan, &row, room));
-        Task { layout, plan, row, record }
+        Ok(())
     }
 
-    /// Makes the call; what is lent has exactly the size that the answer needs.
-    fn run(&self, side: &Side, call: Call, room: &mut [u8]) -> u64 {
-        let lent = &mut room[..self.written(call).len()];
+    /// What the call writes, over all records.
+    fn written(&self, side: Side, call: Call) -> &[u8] {
         match call {
-            Call::Compile => (side.compile)(&self.layout, lent),
-            Call::PlanRead => (side.plan_read)(&self.plan, &self.record, lent),
-            Call::PlanEdit => (side.plan_edit)(&self.plan, &self.row, lent),
+            Call::Compile => &self.data.plan,
+            Call::PlanRead if side == Side::Display => &self.data.displays,
+            Call::PlanRead => &self.data.rows,
+            Call::PlanEdit => &self.data.records,
         }
     }
 
-    /// What the call writes.
-    fn written(&self, call: Call) -> &[u8] {
-        match call {
-            Call::Compile => &self.plan,
-            Call::PlanRead => &self.row,
-            Call::PlanEdit => &self.record,
-        }
+    /// What the calls answer, over all records: successes, with their lengths.
+    fn answers(&self, side: Side, call: Call) -> u64 {
+        let length = match (side, call) {
+            (Side::Binary | Side::Display, _) => 0,
+            (_, Call::Compile) => self.data.plan.len(),
+            (_, Call::PlanRead) => self.data.fields,
+            (_, Call::PlanEdit) => self.data.record_length(),
+        };
+        (RECORDS * length * 65_536) as u64
     }
-
-    /// What the call answers: success, with its length.
-    fn answer(&self, call: Call) -> u64 {
-        let bytes = self.written(call).len();
-        let length = if call == Call::PlanRead { bytes / 8 } else { bytes };
-        65_536 * length as u64
-    }
-}
-
-fn layout_from(first: usize, fields: usize) -> Vec<u8> {
-    let pictures = PICTURES.iter().cycle().skip(first).take(fields);
-    pictures.flat_map(|picture| [picture.as_bytes(), b";"]).flatten().copied().collect()
-}
-
-/// The bytes that a successful call writes, whose length it answers.
-fn made(call: impl Fn(&mut [u8]) -> u64) -> Vec<u8> {
-    let mut room = vec![0; MOST_BYTES];
-    let answer = call(&mut room);
-    assert_eq!(answer % 65_536, 0, "the second program refuses a task");
-    room.truncate((answer / 65_536) as usize);
-    room
 }

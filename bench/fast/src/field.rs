@@ -1,0 +1,151 @@
+//! The characters of one field: the value becomes digits, eight at a time in a word, and one pass picks each character by its
+//! address.
+
+use crate::judge::Counts;
+use crate::look::PRINTED;
+use crate::plan::Field;
+use std::mem::MaybeUninit;
+use std::ptr;
+
+/// Powers of ten, for constants and in memory.
+pub const POWERS: [u64; 16] = {
+    let mut powers = [1; 16];
+    let mut k = 1;
+    while k < 16 {
+        powers[k] = powers[k - 1] * 10;
+        k += 1;
+    }
+    powers
+};
+pub static POWER: [u64; 16] = POWERS;
+
+/// Edits a value that fits.
+///
+/// # Safety
+/// The field is judged and has these counts, and there is room for its characters.
+#[inline(always)]
+pub unsafe fn edit_field(field: Field, counts: &Counts, m: i64, out: *mut u8) {
+    static FILLS: [[u8; 16]; 2] = [[b' '; 16], [b'*'; 16]];
+    let t = m.unsigned_abs();
+    let filled = FILLS[(field.kind == 2) as usize].as_ptr();
+    if t == 0 && counts.suppressible == counts.digits {
+        ptr::write_bytes(out, *filled, field.n);
+        return;
+    }
+    // the digits that take the fill: leading zeros that may, and stand before V
+    let cut = (counts.digits - length_of(t)).min(counts.suppressible).min(counts.whole) as usize;
+    let mut text = MaybeUninit::uninit();
+    let start = digits_of(t, counts.digits, cut, filled, &mut text);
+    let printed = PRINTED[(m < 0) as usize].as_ptr();
+    let (before, after) =
+        ((field.roles, out, field.v), (field.roles.add(field.v), out.add(field.v), field.n - field.v));
+    if field.kind == 0 {
+        Pick { next: start, start, cut: 0, printed, filled }.all::<false, false>((field.roles, out, field.n));
+    } else if field.kind < 3 {
+        let mut pick = Pick { next: start, start, cut, printed, filled };
+        pick.all::<true, false>(before);
+        pick.all::<false, false>(after);
+    } else {
+        // the first drifting symbol counts as a digit that takes the fill
+        let start = start.sub(1);
+        let mut pick = Pick { next: start, start, cut: cut + 1, printed, filled };
+        let reached = pick.all::<true, true>(before);
+        let inside = pick.next as usize - start as usize > cut + 1;
+        pick.all::<false, false>(after);
+        let drift = if inside { reached - 1 } else { field.v };
+        *out.add(drift - 1) = *printed.add(field.kind);
+    }
+}
+
+/// How many digits a number below 10^15 has; 1 for 0.
+#[inline(always)]
+fn length_of(t: u64) -> u32 {
+    let bits = 64 - (t | 1).leading_zeros();
+    let low = (bits * 1233) >> 12; // log2 to log10, from below
+    low + (t >= POWER[(low & 15) as usize]) as u32
+}
+
+/// The address of the first of so many digits of a number, with the fill for the first `cut` of them and for the places before.
+///
+/// # Safety
+/// The text has 32 bytes: 16 to spare, then 16 for at most 15 digits; the fills are 16.
+#[inline(always)]
+unsafe fn digits_of(t: u64, digits: u32, cut: usize, filled: *const u8, text: &mut MaybeUninit<[u8; 32]>) -> *const u8 {
+    const ZEROS: u64 = u64::from_ne_bytes([b'0'; 8]);
+    const HALF: u64 = POWERS[8];
+    let text = text.as_mut_ptr() as *mut u8;
+    let fills = ptr::read_unaligned(filled as *const u64);
+    let mut low = t;
+    if digits > 8 {
+        low = t % HALF;
+        store(text.add(16), eight_digits(t / HALF) | ZEROS);
+    }
+    store(text.add(24), eight_digits(low) | ZEROS);
+    let start = text.add(32 - digits as usize);
+    store(start.add(cut).sub(8), fills);
+    store(start.add(cut).sub(16), fills);
+    start
+}
+
+/// Eight bytes to an address that has them.
+#[inline(always)]
+unsafe fn store(to: *mut u8, word: u64) {
+    ptr::write_unaligned(to as *mut u64, word.to_le())
+}
+
+/// The eight digits of a number below 10^8, a byte each, the first in the lowest.
+#[inline(always)]
+fn eight_digits(t: u64) -> u64 {
+    let fours = (t / 10_000) | (t % 10_000) << 32;
+    let hundreds = (fours * 10_486) >> 20 & 0x0000_007f_0000_007f;
+    let twos = hundreds | (fours - 100 * hundreds) << 16;
+    let tens = (twos * 103) >> 10 & 0x000f_000f_000f_000f;
+    tens | (twos - 10 * tens) << 8
+}
+
+/// Picks the characters of a field: `next` is the digit to come, `cut` how many digits take the fill, the first at `start`.
+struct Pick {
+    next: *const u8,
+    start: *const u8,
+    cut: usize,
+    printed: *const u8,
+    filled: *const u8,
+}
+
+impl Pick {
+    /// The characters of some positions, two at a time: a digit, or the first drifting symbol, is the next one; another is what it
+    /// prints or, in the stretch, the fill. With `DRIFTS` it answers how many positions there are up to the first digit that
+    /// prints.
+    ///
+    /// # Safety
+    /// There are so many low roles and as much room, and no more digits than stand from `next` on.
+    #[inline(always)]
+    unsafe fn all<const STRETCH: bool, const DRIFTS: bool>(&mut self, part: (*const u8, *mut u8, usize)) -> usize {
+        let (mut roles, mut out, count) = part;
+        let mut reached = 0;
+        let end = roles.add(count);
+        if count & 1 != 0 {
+            reached += self.one::<STRETCH, DRIFTS>(*roles, out);
+            roles = roles.add(1);
+            out = out.add(1);
+        }
+        while roles != end {
+            reached += self.one::<STRETCH, DRIFTS>(*roles, out);
+            reached += self.one::<STRETCH, DRIFTS>(*roles.add(1), out.add(1));
+            roles = roles.add(2);
+            out = out.add(2);
+        }
+        reached
+    }
+
+    #[inline(always)]
+    unsafe fn one<const STRETCH: bool, const DRIFTS: bool>(&mut self, role: u8, out: *mut u8) -> usize {
+        let taken = self.next as usize - self.start as usize;
+        let inside = STRETCH && taken.wrapping_sub(1) < self.cut;
+        let other = if inside { self.filled } else { self.printed };
+        let digit = role <= 2;
+        *out = *if digit { self.next } else { other.add(role as usize) };
+        self.next = self.next.add(digit as usize);
+        (DRIFTS && taken <= self.cut) as usize
+    }
+}

@@ -1,0 +1,63 @@
+//! A field judged by the machine of `shape`, with its digits counted beside it.
+
+use crate::plan::Field;
+use crate::shape::{self, step};
+
+/// What editing asks of a field's digits.
+#[derive(Clone, Copy)]
+pub struct Counts {
+    pub digits: u32,
+    /// Those of them that are suppressible.
+    pub suppressible: u32,
+    /// Those of them before V.
+    pub whole: u32,
+    pub signed: bool,
+}
+
+/// The counts of a field, and whether it is good: its shape is right, and it has 15 digits at most.
+///
+/// # Safety
+/// The field's roles are memory of its length, each role below 16, and V is not past them.
+#[inline(always)]
+pub unsafe fn judge(field: Field) -> (Counts, bool) {
+    let (counts, right) = counted(field);
+    (counts, right & (counts.digits <= 15))
+}
+
+/// The counts of a field, and whether its shape is right, which no shape without a digit is.
+///
+/// # Safety
+/// As `judge`.
+#[inline(always)]
+pub unsafe fn counted(field: Field) -> (Counts, bool) {
+    let (mut state, mut count) = count_on(field.roles, field.v, shape::start(field.kind), 0);
+    let whole = count & 0xffff;
+    if field.v != field.n {
+        (state, count) = count_on(field.roles.add(field.v), field.n - field.v, shape::step_v(state), count);
+    }
+    let ended = shape::end(state);
+    let counts = Counts { digits: count & 0xffff, suppressible: count >> 16, whole, signed: ended & 2 != 0 };
+    (counts, ended != 0)
+}
+
+/// The machine and the count over some roles, two at a time.
+#[inline(always)]
+unsafe fn count_on(mut roles: *const u8, n: usize, mut state: usize, mut count: u32) -> (usize, u32) {
+    // by role: one digit in the low half, one suppressible in the high half
+    static WEIGHT: [u32; 16] = [1, 0x10001, 0, 0, 0, 0, 0, 0, 0, 0, 0, 0, 0, 0, 0, 0];
+    let end = roles.add(n);
+    if n & 1 != 0 {
+        let role = *roles as usize;
+        state = step(state, role);
+        count += *WEIGHT.get_unchecked(role);
+        roles = roles.add(1);
+    }
+    while roles != end {
+        let (role, next) = (*roles as usize, *roles.add(1) as usize);
+        state = step(step(state, role), next);
+        count += *WEIGHT.get_unchecked(role);
+        count += *WEIGHT.get_unchecked(next);
+        roles = roles.add(2);
+    }
+    (state, count)
+}
