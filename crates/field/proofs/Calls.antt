@@ -1,27 +1,23 @@
 -- The public calls from their steps: the digits made, the stretch and the characters together are the field of that magnitude, and the ways
--- out of editing and reading are the cases of their definitions. Assumes nothing.
+-- out of editing are the cases of its definition. Assumes nothing.
 use mathlib.Core.Path.{_≡_, ap}
-use mathlib.Core.Bool.{Bool, true, false, not, _&&_, and-false}
+use mathlib.Core.Bool.{Bool, not, _&&_, and-false}
 use mathlib.Core.List.{List, [], _++_}
-use mathlib.Core.Option.{none, some}
 use Prim.Native.Nat.{ℕ, _+_, _-_, _<_, _≤_}
-use borrow.Author.Tests.{eq-eqb, le-leb, le-ltb, lt-leb, lt-ltb, ne-eqb}
-use native.Mathlib.Omega.{arith}
-use lib.Dec.{eqb, leb, ltb}
-use lib.ListN.{length, replicate}
-use Rattle.rules.specs.declared.Reading.the-variants.{Conversion}
-use Rattle.rules.specs.Words.{any, count, same}
+use borrow.Author.Tests.{le-leb, lt-leb}
+use lib.Dec.{eqb, leb}
+use lib.ListN.{replicate}
+use Rattle.rules.specs.Words.{any, count}
 use Rattle.rules.specs.Search.{upTo}
 use Rattle.rules.specs.Digits.{Digits, digitsOf}
 use Rattle.rules.specs.Roles.{isDigit, isNine}
 use Rattle.rules.specs.Form.{Form, size}
 use Rattle.rules.specs.Shape.{digitCount, mostDigits}
-use Rattle.rules.specs.Edit.{allSuppressible, field, hasSign, isBlank}
-use Rattle.rules.specs.Candidate.{minusFits, readOf, readingOf, signed, worthOf}
+use Rattle.rules.specs.Edit.{allSuppressible, isBlank}
 use Rattle.rules.proofs.Lists.{count-split}
 use Rattle.rules.proofs.Digits.{digits-digits}
 use Rattle.decimal.specs.Digits.{digitRoom}
-use Rattle.field.specs.Results.{fieldRoom, readIn, roomOf}
+use Rattle.field.specs.Results.{fieldRoom, roomOf}
 use Rattle.field.specs.Steps.{cellIn, stretchOf, surveyOf}
 use Rattle.field.proofs.Whole.{field-whole, padded, padded-digits}
 
@@ -31,7 +27,6 @@ module _ (rs : List ℕ) (v : ℕ) where
   unfolding surveyOf
   survey-digits = count-split isDigit v rs
 
--- Editing.
 module _ (d t : ℕ) (h : d ≤ mostDigits) where
   room-at : digitRoom d t .at ≡ digitsOf d t ++ replicate (16 - d) 0
   unfolding digitRoom
@@ -56,39 +51,3 @@ module _ (φ : Form) where
   pub room-many : (negative : Bool) (t : ℕ) → mostDigits < digitCount φ → roomOf [] ≡ fieldRoom φ negative t
   unfolding fieldRoom
   room-many negative t n = rw (lt-leb (digitCount φ) mostDigits n, and-false (leb (size φ) 64))
-
--- Reading.
-module _ (φ : Form) (f : List ℕ) where
-  module _ (plus : same (field φ false (worthOf φ f)) f ≡ false) where
-    pub reads-zero : worthOf φ f ≡ 0 → readOf φ f ≡ none
-    unfolding readOf minusFits
-    reads-zero z = rw (plus, le-ltb 0 (worthOf φ f) (omega arith))
-
-    pub reads-unsigned : hasSign φ ≡ false → readOf φ f ≡ none
-    unfolding readOf minusFits
-    reads-unsigned s = rw (plus, s, and-false (ltb 0 (worthOf φ f)))
-
-    pub reads-other : same (field φ true (worthOf φ f)) f ≡ false → readOf φ f ≡ none
-    unfolding readOf
-    reads-other m = rw (plus, m, and-false (minusFits φ (worthOf φ f)))
-
-    pub reads-minus : (worthOf φ f ≡ 0 → ⊥) → hasSign φ ≡ true → same (field φ true (worthOf φ f)) f ≡ true → readOf φ f ≡ some (signed true (worthOf φ f))
-    unfolding readOf minusFits
-    reads-minus z s m = rw (plus, s, m, lt-ltb 0 (worthOf φ f) (omega arith))
-
-  pub reads-plus : same (field φ false (worthOf φ f)) f ≡ true → readOf φ f ≡ some (signed false (worthOf φ f))
-  unfolding readOf
-  reads-plus p = rw p
-
-  -- and where nothing is read
-  pub reads-long : (length f ≡ size φ → ⊥) → Conversion ≡ readIn φ f
-  unfolding readIn
-  reads-long n = rw (ne-eqb (length f) (size φ) n, and-false (leb (digitCount φ) mostDigits))
-
-  pub reads-many : mostDigits < digitCount φ → Conversion ≡ readIn φ f
-  unfolding readIn
-  reads-many n = rw (lt-leb (digitCount φ) mostDigits n)
-
-  pub reads-in : length f ≡ size φ → digitCount φ ≤ mostDigits → readingOf (readOf φ f) ≡ readIn φ f
-  unfolding readIn
-  reads-in n d = rw (eq-eqb (length f) (size φ) n, le-leb (digitCount φ) mostDigits d)

@@ -1,6 +1,6 @@
 -- What a caller needs to know of the answers: the parts of a measure, what stands in a room, and that a form of an accepted picture's size is
 -- never refused. Assumes nothing.
-use mathlib.Core.Path.{_≡_, refl, sym, _∙_}
+use mathlib.Core.Path.{_≡_, refl, _∙_}
 use mathlib.Core.Bool.{Bool}
 use mathlib.Core.List.{List}
 use Prim.Native.Nat.{ℕ, _-_, _≤_}
@@ -10,11 +10,9 @@ use lib.Seq.{take-append-seam}
 use Rattle.rules.specs.Form.{Form, size}
 use Rattle.rules.specs.Shape.{digitCount, mostDigits, places, whole}
 use Rattle.rules.specs.Edit.{field, hasSign}
-use Rattle.rules.specs.Candidate.{readOf, readingOf}
 use Rattle.rules.proofs.Fields.{length-field}
-use Rattle.field.specs.Results.{fieldRoom, measureOf, readIn, roomOf}
+use Rattle.field.specs.Results.{fieldRoom, measureOf, roomOf}
 use Rattle.field.proofs.Whole.{padded}
-use Rattle.field.proofs.Calls.{reads-in}
 
 module _ (φ : Form) where
   pub measure-whole : measureOf φ .whole ≡ whole φ
@@ -51,6 +49,3 @@ module _ (φ : Form) (d : digitCount φ ≤ mostDigits) where
 
     pub field-count : fieldRoom φ negative t .count ≡ size φ
     field-count = rw field-room (room-count (field φ negative t) ∙ length-field φ negative t)
-
-  pub read-in : (f : List ℕ) → length f ≡ size φ → readIn φ f ≡ readingOf (readOf φ f)
-  read-in f n = sym (reads-in φ f n d)

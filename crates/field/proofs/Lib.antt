@@ -2,5 +2,4 @@ pub mod Columns
 pub mod Loops
 pub mod Whole
 pub mod Calls
-pub mod Passing
 pub mod Laws

@@ -2,14 +2,11 @@
 use mathlib.Core.Bool.{Bool, cond, _&&_}
 use mathlib.Core.List.{List, [], _++_}
 use Prim.Native.Nat.{ℕ, _-_}
-use lib.Dec.{leb, eqb}
+use lib.Dec.{leb}
 use lib.ListN.{length, replicate}
-use Rattle.rules.specs.declared.Reading.{Reading}
-use Rattle.rules.specs.declared.Reading.the-variants.{Conversion}
 use Rattle.rules.specs.Form.{Form, size}
 use Rattle.rules.specs.Shape.{digitCount, mostDigits, places, whole}
 use Rattle.rules.specs.Edit.{field, hasSign}
-use Rattle.rules.specs.Candidate.{readOf, readingOf}
 use Rattle.field.specs.declared.Field.{Field}
 use Rattle.field.specs.declared.Measured.{Measured}
 
@@ -23,7 +20,3 @@ roomOf xs = record { chars = xs ++ replicate (64 - length xs) 0; count = length 
 -- a form with more positions or digits than a picture may have gives an empty room
 unfoldable pub fieldRoom : Form → Bool → ℕ → Field
 fieldRoom φ negative t = cond (leb (size φ) 64 && leb (digitCount φ) mostDigits) (roomOf (field φ negative t)) (roomOf [])
-
--- nor does such a form, or a field of another length, show a value
-unfoldable pub readIn : Form → List ℕ → Reading
-readIn φ f = cond (leb (digitCount φ) mostDigits && eqb (length f) (size φ)) (readingOf (readOf φ f)) Conversion

@@ -1,18 +1,13 @@
-// One field of one form: what a value's characters are, and which value a field shows. A form comes as its parts, the roles of
+// One field of one form: what a value's characters are. A form comes as its parts, the roles of
 // its positions, the number of positions before V, and the kind of suppression. Each call answers for every input.
 mod cells; // cells.rt: the characters of a field, written
-mod marks; // marks.rt: roles and the characters that they show
-mod reading; // reading.rt: the value that has a field
+pub mod marks; // marks.rt: roles and the characters that they show
 mod stretch; // stretch.rt: which positions are suppressed
 mod survey; // survey.rt: one pass over the roles, for measuring and editing
-mod zones; // zones.rt: one pass over a field that is read
 
 use cells::put;
 use decimal::digits::digits;
 use marks::sign_drifts;
-use reading::is_many;
-use reading::value_in;
-use rules::Reading;
 use stretch::is_blank;
 use stretch::stretch_of;
 use survey::survey_of;
@@ -21,10 +16,10 @@ ghost use mathlib.Core.Bool.{_||_};
 ghost use mathlib.Core.List.{[]};
 ghost use Rattle.rules.specs.Roles.{driftsSign};
 ghost use Rattle.rules.specs.Form.{formed};
-ghost use Rattle.field.specs.Results.{measureOf, roomOf, fieldRoom, readIn};
+ghost use Rattle.field.specs.Results.{measureOf, roomOf, fieldRoom};
 
 // More digits or positions than these no picture has, and the rooms have no place for them.
-pub(crate) const MOST_DIGITS: usize = 15;
+const MOST_DIGITS: usize = 15;
 
 const MOST_POSITIONS: usize = 64;
 
@@ -88,17 +83,4 @@ pub fn edit(roles: &[u8], vee: usize, kind: u8, negative: bool, t: u64) -> Field
     let ds = made.at;
     let stretch = stretch_of(roles, vee, kind, &ds, is_blank(seen.nine, t));
     put(roles, kind, stretch, &ds, negative)
-}
-
-// The one value that has this field, if any has. A field of another length has none.
-pub fn read(roles: &[u8], vee: usize, kind: u8, field: &[u8]) -> Reading
-    ensures { λ r. ⌜ r ≡ readIn (formed (now (roles .entry)) vee kind) (now (field .entry)) ⌝ }
-{
-    if field.len() != roles.len() {
-        return Reading::Conversion;
-    }
-    if is_many(roles) {
-        return Reading::Conversion;
-    }
-    value_in(roles, vee, kind, field)
 }

@@ -7,13 +7,13 @@ ghost use Rattle.rules.specs.Roles.{isNine, isDigit, opens, isSign, drifts, dri
 ghost use Rattle.rules.specs.Edit.{mark, fill};
 ghost use Rattle.rules.specs.Candidate.{digitIn};
 
-pub(crate) fn is_nine(role: u8) -> bool
+pub fn is_nine(role: u8) -> bool
     ensures { λ r. ⌜ r ≡ isNine role ⌝ }
 {
     role == 0
 }
 
-pub(crate) fn is_digit(role: u8) -> bool
+pub fn is_digit(role: u8) -> bool
     ensures { λ r. ⌜ r ≡ isDigit role ⌝ }
 {
     if role == 0 {
@@ -23,7 +23,7 @@ pub(crate) fn is_digit(role: u8) -> bool
 }
 
 // How many digits the position holds: 1 or 0.
-pub(crate) fn digits_at(role: u8) -> usize
+pub fn digits_at(role: u8) -> usize
     ensures { λ r. ⌜ (r ≡ one (isDigit role)) × (r ≤ 1) ⌝ }
 {
     if is_digit(role) {
@@ -33,7 +33,7 @@ pub(crate) fn digits_at(role: u8) -> usize
 }
 
 // A suppressible digit or the first drifting symbol.
-pub(crate) fn does_open(role: u8) -> bool
+pub fn does_open(role: u8) -> bool
     ensures { λ r. ⌜ r ≡ opens role ⌝ }
 {
     if role == 1 {
@@ -43,7 +43,7 @@ pub(crate) fn does_open(role: u8) -> bool
 }
 
 // S, + and -, and CR and DB by their first letters.
-pub(crate) fn is_sign(role: u8) -> bool
+pub fn is_sign(role: u8) -> bool
     ensures { λ r. ⌜ r ≡ isSign role ⌝ }
 {
     if role < 3 {
@@ -58,7 +58,7 @@ pub(crate) fn is_sign(role: u8) -> bool
     role == 13
 }
 
-pub(crate) fn does_drift(kind: u8) -> bool
+pub fn does_drift(kind: u8) -> bool
     ensures { λ r. ⌜ r ≡ drifts kind ⌝ }
 {
     if kind < 3 {
@@ -67,7 +67,7 @@ pub(crate) fn does_drift(kind: u8) -> bool
     kind <= 6
 }
 
-pub(crate) fn sign_drifts(kind: u8) -> bool
+pub fn sign_drifts(kind: u8) -> bool
     ensures { λ r. ⌜ r ≡ driftsSign kind ⌝ }
 {
     if kind < 3 {
@@ -87,7 +87,7 @@ fn chosen(test: bool, yes: u8, no: u8) -> u8
 
 // The character of a role that is no digit, and of a drifting symbol by the kind, which has the number of the symbol's static
 // role. CR and DB are written and compared as the letters of these two strings. A byte that is no role shows 0.
-pub(crate) fn mark_of(role: u8, negative: bool) -> u8
+pub fn mark_of(role: u8, negative: bool) -> u8
     ensures { λ r. ⌜ r ≡ mark role negative ⌝ }
 {
     let credit = b"CR";
@@ -111,7 +111,7 @@ pub(crate) fn mark_of(role: u8, negative: bool) -> u8
 }
 
 // What a suppressed position shows: * in a picture with *, else a blank.
-pub(crate) fn fill_of(kind: u8) -> u8
+pub fn fill_of(kind: u8) -> u8
     ensures { λ r. ⌜ r ≡ fill kind ⌝ }
 {
     if kind == 2 {
@@ -121,7 +121,7 @@ pub(crate) fn fill_of(kind: u8) -> u8
 }
 
 // What a character is worth as a digit; one that is none is worth 0.
-pub(crate) fn digit_in(c: u8) -> u8
+pub fn digit_in(c: u8) -> u8
     ensures { λ r. ⌜ (r ≡ digitIn c) × (r < 10) ⌝ }
 {
     if c < b'0' {

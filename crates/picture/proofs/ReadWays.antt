@@ -23,7 +23,7 @@ use Rattle.rules.proofs.Logic.{both}
 use Rattle.rules.proofs.Firsts.{first-here, first-next, refuses}
 use Rattle.rules.proofs.Forms.{good-parts}
 use Rattle.rules.proofs.Outcomes.{read-is}
-use Rattle.field.specs.Results.{readIn}
+use Rattle.fieldread.specs.Results.{readIn}
 use Rattle.picture.specs.Calls.{Narrow, saidAnswer}
 
 -- an accepted picture's form is narrow

@@ -19,7 +19,7 @@ fn read_form(roles: &[u8], vee: usize, kind: u8, field: &[u8]) -> Answer
     if field.len() != roles.len() {
         return refused(9);
     }
-    let reading = field::read(roles, vee, kind, field);
+    let reading = fieldread::read(roles, vee, kind, field);
     match reading {
         Reading::Value(m) => Answer {
             number: 0,

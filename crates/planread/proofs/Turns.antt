@@ -22,8 +22,8 @@ use Rattle.rules.specs.Candidate.{readAll, readOf, readingOf}
 use Rattle.rules.proofs.Forms.{good-parts}
 use Rattle.rules.proofs.Logic.{both}
 use Rattle.rules.proofs.PlanWalk.{fieldCount, formAt, formsAt, plan-parts, walk-end, walk-start, walk-step, widthAt}
-use Rattle.field.specs.Results.{readIn}
-use Rattle.field.proofs.Laws.{read-in}
+use Rattle.fieldread.specs.Results.{readIn}
+use Rattle.fieldread.proofs.Cases.{read-in}
 use Rattle.plan.proofs.Parts.{Walking, walking-good, walking-length, walking-start, walking-step, walking-within}
 use Rattle.planread.specs.Runs.{Due, ranFrom}
 

@@ -21,7 +21,7 @@ pub(crate) fn run_fields(plan: &[u8], record: &[u8], values: &mut [i64; 32]) -> 
         let kind = plan[3 + 3 * i];
         let end = at + n;
         let to = from + n;
-        let reading = field::read(&plan[at..end], vee, kind, &record[from..to]);
+        let reading = fieldread::read(&plan[at..end], vee, kind, &record[from..to]);
         match reading {
             Reading::Value(m) => {
                 values[i] = m;

@@ -1,0 +1,115 @@
+-- Not 01's words: what reading in one pass has found before position k, which each step takes one position further, and what the last step
+-- makes of it. proofs/Passing.antt proves that this decides whether the field is that of its value. Assumes nothing.
+use mathlib.Core.Path.{_≡_}
+use mathlib.Core.Bool.{Bool, true, false, cond, not, _&&_, _||_}
+use mathlib.Core.List.{List}
+use mathlib.Core.Option.{none}
+use Prim.Native.Nat.{ℕ, zero, suc, _+_, _-_, _*_, _<_, _≤_}
+use Prim.Native.Char.{code}
+use lib.Dec.{leb, eqb}
+use lib.ListN.{length, getD, take}
+use Rattle.rules.specs.Words.{same}
+use Rattle.rules.specs.Search.{upTo}
+use Rattle.rules.specs.Digits.{valueOf}
+use Rattle.rules.specs.Roles.{drifts, isDigit}
+use Rattle.rules.specs.Form.{Form, roleAt, size}
+use Rattle.rules.specs.Shape.{digitCount, mostDigits}
+use Rattle.rules.specs.Edit.{cellAt, driftsTo, fill, inStretch, mark, opening, start}
+use Rattle.rules.specs.Candidate.{digitIn, readOf, shown, shownIn, worthOf}
+use Rattle.fieldread.specs.declared.zones.Said.{Said}
+use Rattle.fieldread.specs.declared.zones.Hidden.{Hidden}
+
+-- p holds of every place below k
+unfoldable pub soFar : (ℕ → Bool) → ℕ → Bool
+soFar p zero = true
+soFar p (suc k) = soFar p k && p k
+
+-- the character is a digit
+unfoldable pub isFigure : ℕ → Bool
+isFigure c = leb (code "0") c && leb c (code "9")
+
+-- a digit more that prints, and a mark more
+unfoldable pub digitStep : Said → ℕ → Said
+digitStep s c = record { value = s .value * 10 + digitIn c; plus = s .plus; minus = s .minus }
+
+unfoldable pub markStep : Said → ℕ → ℕ → Said
+markStep s r c = record { value = s .value; plus = s .plus && eqb c (mark r false); minus = s .minus && eqb c (mark r true) }
+
+module _ (φ : Form) (f : List ℕ) where
+  -- where printing starts, by the digits that the whole field shows; which positions are of the stretch; which has the drifting character
+  abbrev pub startIn : ℕ
+  startIn = start φ (shown φ f)
+
+  abbrev pub within : ℕ → Bool
+  within k = inStretch φ (shown φ f) k
+
+  abbrev pub hasDrift : ℕ → Bool
+  hasDrift k = drifts (φ .kind) && eqb k (driftsTo φ (shown φ f))
+
+  -- the value of the digits before position k
+  abbrev pub valueTo : ℕ → ℕ
+  valueTo k = valueOf (shownIn (take k (φ .roles)) f)
+
+  -- what is asked of a position that prints: whatever the sign, that a digit shows one; and by the sign, that a mark shows its own
+  unfoldable pub fineAt : ℕ → Bool
+  fineAt k = within k || not (isDigit (roleAt φ k)) || isFigure (getD f k 0)
+
+  unfoldable pub markedAt : Bool → ℕ → Bool
+  markedAt negative k = within k || isDigit (roleAt φ k) || eqb (getD f k 0) (mark (roleAt φ k) negative)
+
+  -- each digit that prints is one
+  abbrev pub isFine : Bool
+  isFine = soFar fineAt (size φ)
+
+  unfoldable pub saidAt : ℕ → Said
+  saidAt k = record { value = valueTo k; plus = soFar (markedAt false) k; minus = soFar (markedAt true) k }
+
+  -- what all positions say: no value and the marks of neither sign, unless each digit that prints is one
+  unfoldable pub saidIn : Said
+  saidIn = record { value = cond isFine (worthOf φ f) 0; plus = isFine && soFar (markedAt false) (size φ); minus = isFine && soFar (markedAt true) (size φ) }
+
+  -- what the reading is asked of
+  pub record Asked : Type 0 where
+    pub long : length f ≡ size φ
+    pub few : digitCount φ ≤ mostDigits
+
+  -- printing doesn't start before position k, and so there is no value yet
+  pub record Ahead (k : ℕ) : Type 0 where
+    pub short : k ≤ startIn
+    pub empty : valueTo k ≡ 0
+
+  -- nor has the opening been passed; it is here unless printing starts
+  pub record Led (k : ℕ) : Type 0 where
+    pub ahead : Ahead k
+    pub early : k ≤ opening φ
+    pub opened : k < startIn → opening φ ≤ k
+
+  -- from there on to position k stands the fill
+  pub record Filled (from k : ℕ) : Type 0 where
+    pub ahead : Ahead k
+    pub opened : k < startIn → opening φ ≤ k
+    pub fills : (j : ℕ) → opening φ ≤ j → j < k → getD f j 0 ≡ fill (φ .kind)
+    pub kept : saidAt from ≡ saidAt k
+
+  -- no fill stands here, unless printing starts
+  abbrev pub Unfilled : ℕ → Type 0
+  Unfilled k = k < startIn → getD f k 0 ≡ fill (φ .kind) → ⊥
+
+  -- printing starts at `to`: the stretch shows the fill and, where its place is, the drifting character, which is `last`
+  pub record Stopped (from to last : ℕ) : Type 0 where
+    pub starts : startIn ≡ to
+    pub fills : (k : ℕ) → within k ≡ true → hasDrift k ≡ false → getD f k 0 ≡ fill (φ .kind)
+    pub ended : from < to → getD f (to - 1) 0 ≡ last
+    pub kept : saidAt from ≡ saidAt to
+
+  pub record Hides (from : ℕ) (h : Hidden) : Type 0 where
+    pub stopped : h .ok ≡ true → Stopped from (h .to) (h .last)
+    pub refused : h .ok ≡ false → readOf φ f ≡ none
+
+  -- the value said, and whether the field is all cells of what it shows, with plus and with minus
+  unfoldable pub sidesOf : Said
+  sidesOf = record {
+    value = cond isFine (worthOf φ f) 0;
+    plus = same (upTo (size φ) (λ k. cellAt φ (shown φ f) false k)) f;
+    minus = same (upTo (size φ) (λ k. cellAt φ (shown φ f) true k)) f;
+  }

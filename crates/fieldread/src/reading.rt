@@ -1,0 +1,151 @@
+// The value that has a field: what its digits are worth, with the sign under which the field is that value's. Beside the one pass of
+// zones.rt the roles are looked at only for a nine at the value 0, for a sign where the marks are those of minus, and where there are
+// positions enough for too many digits.
+use super::MOST_DIGITS;
+use super::zones::Said;
+use super::zones::compared;
+use super::zones::hide;
+use super::zones::lead;
+use field::marks::digits_at;
+use field::marks::fill_of;
+use field::marks::is_nine;
+use field::marks::is_sign;
+use field::marks::sign_drifts;
+use rules::Reading;
+ghost use mathlib.Core.Path.{_≡_};
+ghost use mathlib.Core.Bool.{false};
+ghost use lib.Dec.{ltb};
+ghost use lib.ListN.{length};
+ghost use Rattle.rules.specs.Words.{any, count, same};
+ghost use Rattle.rules.specs.Search.{upTo};
+ghost use Rattle.rules.specs.Roles.{isDigit, isNine, isSign};
+ghost use Rattle.rules.specs.Form.{formed};
+ghost use Rattle.rules.specs.Shape.{mostDigits};
+ghost use Rattle.rules.specs.Edit.{field as fieldOf, hasSign};
+ghost use Rattle.rules.specs.Candidate.{readOf, readingOf, worthOf};
+ghost use Rattle.fieldread.specs.Zones.{Asked, sidesOf};
+
+// Whether the digits are more than a picture may have. `spare` positions before k have still to be no digits. Where there are few
+// positions nothing is looked at; else it is from the end, where most of what is no digit stands.
+pub(crate) fn is_many(roles: &[u8]) -> bool
+    ensures { λ r. ⌜ r ≡ ltb mostDigits (count isDigit (now (roles .entry))) ⌝ }
+{
+    let mut k = roles.len();
+    if k <= MOST_DIGITS {
+        return false;
+    }
+    let mut spare = k - MOST_DIGITS;
+    while 0 < k {
+        k -= 1;
+        spare = spare + digits_at(roles[k]) - 1;
+        if spare == 0 {
+            return false;
+        }
+    }
+    true
+}
+
+// From the end, where the nines stand as a rule.
+fn any_nine(roles: &[u8]) -> bool
+    ensures { λ r. ⌜ r ≡ any isNine (now (roles .entry)) ⌝ }
+{
+    let mut k = roles.len();
+    while 0 < k {
+        k -= 1;
+        if is_nine(roles[k]) {
+            return true;
+        }
+    }
+    false
+}
+
+// A sign stands at one of the ends as a rule: the first position is looked at, and then all from the end.
+fn any_sign(roles: &[u8]) -> bool
+    ensures { λ r. ⌜ r ≡ any isSign (now (roles .entry)) ⌝ }
+{
+    let mut k = roles.len();
+    if k == 0 {
+        return false;
+    }
+    if is_sign(roles[0]) {
+        return true;
+    }
+    while 0 < k {
+        k -= 1;
+        if is_sign(roles[k]) {
+            return true;
+        }
+    }
+    false
+}
+
+// Where a sign drifts the roles aren't looked at.
+fn is_signed(roles: &[u8], vee: usize, kind: u8) -> bool
+    ensures { λ r. ⌜ r ≡ hasSign (formed (now (roles .entry)) vee kind) ⌝ }
+{
+    if sign_drifts(kind) {
+        return true;
+    }
+    any_sign(roles)
+}
+
+// Whether every character is the fill.
+fn all_fill(field: &[u8], fill: u8) -> bool
+    ensures { λ r. ⌜ r ≡ same (upTo (length (now (field .entry))) (λ k. fill)) (now (field .entry)) ⌝ }
+{
+    for k in 0..field.len() {
+        if field[k] != fill {
+            return false;
+        }
+    }
+    true
+}
+
+// Whether the field is that of the value with plus. Zero without a nine is all fill.
+fn is_plus(roles: &[u8], vee: usize, kind: u8, field: &[u8], sides: Said) -> bool
+    requires { ⌜ Asked (formed (now roles) vee kind) (now field) × (sides ≡ sidesOf (formed (now roles) vee kind) (now field)) ⌝ }
+    ensures { λ r. ⌜ r ≡ same (fieldOf (formed (now (roles .entry)) vee kind) false (worthOf (formed (now (roles .entry)) vee kind) (now (field .entry)))) (now (field .entry)) ⌝ }
+{
+    if sides.value == 0 {
+        if any_nine(roles) {
+            return sides.plus;
+        }
+        return all_fill(field, fill_of(kind));
+    }
+    sides.plus
+}
+
+// The value with the sign whose marks the field has. Plus comes first, so that a field without a mark has it. What 15 digits are worth
+// fits the signed number.
+fn settled(roles: &[u8], vee: usize, kind: u8, field: &[u8], sides: Said) -> Reading
+    requires { ⌜ Asked (formed (now roles) vee kind) (now field) × (sides ≡ sidesOf (formed (now roles) vee kind) (now field)) ⌝ }
+    ensures { λ r. ⌜ r ≡ readingOf (readOf (formed (now (roles .entry)) vee kind) (now (field .entry))) ⌝ }
+{
+    let t = sides.value;
+    if is_plus(roles, vee, kind, field, sides) {
+        return Reading::Value(t as i64);
+    }
+    if t == 0 {
+        return Reading::Conversion;
+    }
+    if !sides.minus {
+        return Reading::Conversion;
+    }
+    if is_signed(roles, vee, kind) {
+        return Reading::Value(-(t as i64));
+    }
+    Reading::Conversion
+}
+
+pub(crate) fn value_in(roles: &[u8], vee: usize, kind: u8, field: &[u8]) -> Reading
+    requires { ⌜ Asked (formed (now roles) vee kind) (now field) ⌝ }
+    ensures { λ r. ⌜ r ≡ readingOf (readOf (formed (now (roles .entry)) vee kind) (now (field .entry))) ⌝ }
+{
+    let led = lead(roles, vee, kind, field);
+    let hidden = hide(roles, vee, kind, field, led.at);
+    if !hidden.ok {
+        return Reading::Conversion;
+    }
+    let sides = compared(roles, vee, kind, field, led, hidden);
+    settled(roles, vee, kind, field, sides)
+}

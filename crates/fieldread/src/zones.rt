@@ -1,0 +1,211 @@
+// A field in one pass, from left to right. Up to the first suppressible digit or drifting symbol the positions print; from there the
+// fill stands up to where printing starts, a drifting symbol's character last; the rest prints. The value is added up on the way, and
+// marks are compared for plus and for minus side by side.
+use field::marks::digit_in;
+use field::marks::does_drift;
+use field::marks::does_open;
+use field::marks::fill_of;
+use field::marks::is_digit;
+use field::marks::is_nine;
+use field::marks::mark_of;
+ghost use mathlib.Core.Path.{_≡_};
+ghost use mathlib.Core.Bool.{true};
+ghost use Prim.Native.Nat.{_≤_, _<_, _^_, min};
+ghost use lib.Dec.{leb};
+ghost use Rattle.rules.specs.Form.{formed};
+ghost use Rattle.rules.specs.Shape.{mostDigits};
+ghost use Rattle.fieldread.specs.Zones.{isFigure, digitStep, markStep, saidAt, saidIn, startIn, Led, Filled, Hides, Unfilled, Asked, sidesOf};
+
+// What the positions passed say: the value of their digits, and whether the marks are those of plus and of minus. Positions of the
+// stretch have no part in it.
+pub(crate) struct Said {
+    pub value: u64,
+    pub plus: bool,
+    pub minus: bool,
+}
+
+// What has been said before position `at`.
+pub(crate) struct Passed {
+    pub at: usize,
+    pub said: Said,
+}
+
+// The stretch up to where printing starts, which is `to`, and the last character in it. Where `ok` is false the field is no value's, and
+// the rest says nothing.
+pub(crate) struct Hidden {
+    pub ok: bool,
+    pub to: usize,
+    pub last: u8,
+}
+
+fn is_figure(c: u8) -> bool
+    ensures { λ r. ⌜ r ≡ isFigure c ⌝ }
+{
+    (b'0' <= c) & (c <= b'9')
+}
+
+fn least(a: usize, b: usize) -> usize
+    ensures { λ r. ⌜ r ≡ min a b ⌝ }
+{
+    if a < b {
+        return a;
+    }
+    b
+}
+
+// A digit more that prints, and a mark more.
+fn print_digit(s: Said, c: u8) -> Said
+    requires { ⌜ s .value < 10 ^ mostDigits ⌝ }
+    ensures { λ r. ⌜ r ≡ digitStep s c ⌝ }
+{
+    let d = digit_in(c);
+    Said {
+        value: s.value * 10 + d as u64,
+        plus: s.plus,
+        minus: s.minus,
+    }
+}
+
+fn print_mark(s: Said, role: u8, c: u8) -> Said
+    ensures { λ r. ⌜ r ≡ markStep s role c ⌝ }
+{
+    Said {
+        value: s.value,
+        plus: s.plus & (c == mark_of(role, false)),
+        minus: s.minus & (c == mark_of(role, true)),
+    }
+}
+
+// Up to V, the first nine or the opening.
+pub(crate) fn lead(roles: &[u8], vee: usize, kind: u8, field: &[u8]) -> Passed
+    requires { ⌜ Asked (formed (now roles) vee kind) (now field) ⌝ }
+    ensures { λ r. ⌜ (r .said ≡ saidAt (formed (now (roles .entry)) vee kind) (now (field .entry)) (r .at)) × Led (formed (now (roles .entry)) vee kind) (now (field .entry)) (r .at) ⌝ }
+{
+    let end = least(vee, roles.len());
+    let mut s = Said {
+        value: 0,
+        plus: true,
+        minus: true,
+    };
+    let mut k: usize = 0;
+    while k < end {
+        let role = roles[k];
+        if is_nine(role) | does_open(role) {
+            return Passed { at: k, said: s };
+        }
+        s = print_mark(s, role, field[k]);
+        k += 1;
+    }
+    Passed { at: k, said: s }
+}
+
+// From there on to the first character that is no fill, if none of V and the nines comes before.
+fn filled(roles: &[u8], vee: usize, kind: u8, field: &[u8], from: usize) -> usize
+    requires { ⌜ Asked (formed (now roles) vee kind) (now field) × Led (formed (now roles) vee kind) (now field) from ⌝ }
+    ensures { λ r. ⌜ Filled (formed (now (roles .entry)) vee kind) (now (field .entry)) from r × Unfilled (formed (now (roles .entry)) vee kind) (now (field .entry)) r ⌝ }
+{
+    let end = least(vee, roles.len());
+    let fill = fill_of(kind);
+    let mut k = from;
+    while k < end {
+        if is_nine(roles[k]) {
+            return k;
+        }
+        if field[k] != fill {
+            return k;
+        }
+        k += 1;
+    }
+    k
+}
+
+// Whether printing starts at k, if it doesn't start before.
+fn does_start(roles: &[u8], vee: usize, kind: u8, field: &[u8], k: usize) -> bool
+    requires { ⌜ Asked (formed (now roles) vee kind) (now field) × (k ≤ startIn (formed (now roles) vee kind) (now field)) ⌝ }
+    ensures { λ r. ⌜ r ≡ leb (startIn (formed (now (roles .entry)) vee kind) (now (field .entry))) k ⌝ }
+{
+    if least(vee, roles.len()) <= k {
+        return true;
+    }
+    let role = roles[k];
+    if is_nine(role) {
+        return true;
+    }
+    if is_digit(role) {
+        return digit_in(field[k]) != 0;
+    }
+    false
+}
+
+// The stretch, which begins at `from` if anywhere.
+pub(crate) fn hide(roles: &[u8], vee: usize, kind: u8, field: &[u8], from: usize) -> Hidden
+    requires { ⌜ Asked (formed (now roles) vee kind) (now field) × Led (formed (now roles) vee kind) (now field) from ⌝ }
+    ensures { λ r. ⌜ Hides (formed (now (roles .entry)) vee kind) (now (field .entry)) from r ⌝ }
+{
+    let at = filled(roles, vee, kind, field, from);
+    if does_start(roles, vee, kind, field, at) {
+        return Hidden {
+            ok: true,
+            to: at,
+            last: fill_of(kind),
+        };
+    }
+    if does_drift(kind) {
+        let to = at + 1;
+        return Hidden {
+            ok: does_start(roles, vee, kind, field, to),
+            to,
+            last: field[at],
+        };
+    }
+    Hidden {
+        ok: false,
+        to: at,
+        last: 0,
+    }
+}
+
+// From where printing starts to the end. A digit's position that shows none ends it, with no value and the marks of neither sign: the
+// field is then 0's, everything suppressed, or no value's.
+fn rest(roles: &[u8], vee: usize, kind: u8, field: &[u8], from: usize, said: Said) -> Said
+    requires { ⌜ Asked (formed (now roles) vee kind) (now field) × (said ≡ saidAt (formed (now roles) vee kind) (now field) from) × (startIn (formed (now roles) vee kind) (now field) ≡ from) ⌝ }
+    ensures { λ r. ⌜ r ≡ saidIn (formed (now (roles .entry)) vee kind) (now (field .entry)) ⌝ }
+{
+    let mut s = said;
+    for k in from..roles.len() {
+        let role = roles[k];
+        let c = field[k];
+        if is_digit(role) {
+            if !is_figure(c) {
+                return Said {
+                    value: 0,
+                    plus: false,
+                    minus: false,
+                };
+            }
+            s = print_digit(s, c);
+        } else {
+            s = print_mark(s, role, c);
+        }
+    }
+    s
+}
+
+// Behind the stretch of a field that `hide` lets pass. In a stretch that isn't empty the drifting character stands last.
+pub(crate) fn compared(
+    roles: &[u8],
+    vee: usize,
+    kind: u8,
+    field: &[u8],
+    led: Passed,
+    hidden: Hidden,
+) -> Said
+    requires { ⌜ Asked (formed (now roles) vee kind) (now field) × (led .said ≡ saidAt (formed (now roles) vee kind) (now field) (led .at)) × Led (formed (now roles) vee kind) (now field) (led .at) × Hides (formed (now roles) vee kind) (now field) (led .at) hidden × (hidden .ok ≡ true) ⌝ }
+    ensures { λ r. ⌜ r ≡ sidesOf (formed (now (roles .entry)) vee kind) (now (field .entry)) ⌝ }
+{
+    let s = rest(roles, vee, kind, field, hidden.to, led.said);
+    if does_drift(kind) & (led.at < hidden.to) {
+        return print_mark(s, kind, hidden.last);
+    }
+    s
+}
