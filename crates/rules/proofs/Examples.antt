@@ -1,68 +1,102 @@
--- 01's sheet, plan and listing come out of the definitions. Editing and the verdicts by computing; reading by computing the candidate, which
--- reading's exactness makes the answer. Assumes nothing.
+-- The sheet and the lines beside it come out of the definitions: each list by computing. And the lister's limit, for every input. Assumes
+-- nothing.
 use mathlib.Core.Path.{_≡_, refl}
-use mathlib.Core.Bool.{true}
-use mathlib.Core.List.{List, [], _∷_, map}
-use mathlib.Core.Option.{Option}
-use Prim.Native.Nat.{ℕ}
-use lib.IntN.{ℤ, pos}
-use Rattle.rules.specs.Words.{any, count, has, place, same, text, times}
-use Rattle.rules.specs.Search.{each, first, upTo}
-use Rattle.rules.specs.Numbers.{badField, firstOf}
-use Rattle.rules.specs.Text.{copies, expandFrom, next, textFits}
-use Rattle.rules.specs.Roles.{drifts, driftsSign, isDigit, isFirstDrifting, isNine, isSign, isStatic, isSuppressible, opens}
-use Rattle.rules.specs.Form.{Form, formOf, kindUpTo, meaning, number, numbers, rolesFrom, suppresses}
-use Rattle.rules.specs.Shape.{digitsFit, drifting, driftsBeforeV, formShape, ninesLast, oneDrifts, oneSign, oneV, places, shape, staticsPlaced, suppressedPlaces, suppressionApart, verdict, whole}
-use Rattle.rules.specs.Digits.{digitsOf, valueOf}
-use Rattle.rules.specs.Edit.{aligned, allSuppressible, cell, cellAt, digitAt, digitChar, driftsTo, edited, field, fill, firstShown, hasSign, inRange, inStretch, isBlank, isMinus, isShown, mark, opening, printed, start, suppressed, tooBig}
-use Rattle.rules.specs.Layout.{accepted, closes, countFits, cut, forms, headers, planOf, positions, recordLength}
-use Rattle.rules.specs.Answers.{ReadIs, answer, answerOver, checkAnswer, compileAnswer, compileMemory, compileNumber, editAnswer, editMemory, editNumber, numberOver, readAnswer, readBefore, recordAnswer}
-use Rattle.rules.specs.Lister.{AllRead, Lists, answerLine, decimal, layoutLine, line, linesFrom, listed, recordLine, recordLines, trimmed}
-use Rattle.rules.specs.Candidate.{digitIn, minusFits, readAll, readOf, shownIn, worthOf}
-use Rattle.rules.specs.PlanBytes.{allGood}
-use Rattle.rules.specs.Sheet.{All, Holds, exampleInput, exampleLayout, exampleListing, examplePlan, others, sheet}
-use Rattle.rules.specs.declared.Answer.{Answer}
-use Rattle.rules.proofs.Outcomes.{all-read, read-is}
-use Rattle.rules.proofs.Plans.{forms-good}
+use mathlib.Core.List.{List, []}
+use Prim.Native.Nat.{ℕ, _≤_}
+use native.Mathlib.Omega.{arith}
+use borrow.Author.Tests.{le-leb, lt-leb}
+use lib.ListN.{length}
+use Rattle.rules.specs.Words.{text}
+use Rattle.rules.specs.Lister.{Lists, ListsLines, linesFrom, mostInput, overLimit}
+use Rattle.rules.specs.Sheet.{All, others, sheet}
+use Rattle.rules.specs.Lines
+use Rattle.rules.proofs.Holding.{all-hold, definitions}
 
--- an answer that the candidate gives
-candidate : (t f : List ℕ) (r : Answer) → readAnswer t f (readOf (meaning t) f) ≡ r → ReadIs t f r
-candidate t f r e = rw (← e) (read-is t f)
-
--- what the candidate says of each record
-abbrev readEach : List Form → List (List ℕ) → List (List (Option ℤ))
-readEach φs [] = []
-readEach φs (rec ∷ recs) = readAll φs rec ∷ readEach φs recs
-
-read-each : (φs : List Form) (recs : List (List ℕ)) → allGood φs ≡ true → AllRead φs recs (readEach φs recs)
-read-each φs [] h = tt
-read-each φs (rec ∷ recs) h = (all-read φs rec h, read-each φs recs h)
-
-abbrev exampleRecords : List (List ℕ)
-exampleRecords = text " 12.34-7" ∷ text "  7.00 8" ∷ text "   .00 8" ∷ []
+-- The sheet's lines marked P, and its others.
 
 pub proved : All sheet
-unfolding has times place any count same first each upTo firstOf badField textFits next copies expandFrom isNine isSuppressible isDigit isFirstDrifting opens isStatic isSign drifts driftsSign number numbers suppresses kindUpTo rolesFrom formOf meaning oneV drifting oneDrifts suppressionApart ninesLast suppressedPlaces oneSign staticsPlaced driftsBeforeV formShape shape whole places digitsFit verdict digitsOf valueOf inRange aligned isMinus hasSign tooBig fill mark digitChar printed suppressed cell opening allSuppressible digitAt isShown firstShown start inStretch driftsTo cellAt isBlank field edited checkAnswer editNumber editAnswer editMemory readAnswer digitIn shownIn worthOf minusFits readOf Holds All
-proved = ((refl, refl), ((refl, refl), ((refl, refl), ((refl, refl), ((refl, refl), ((refl, refl), ((refl, refl), ((refl, refl), ((refl, refl), ((refl, refl), ((refl, refl), ((refl, refl), (candidate _ _ _ refl, (candidate _ _ _ refl, (candidate _ _ _ refl, (candidate _ _ _ refl, tt))))))))))))))))
+unfolding definitions
+proved = all-hold sheet refl
 
 pub others-hold : All others
-unfolding has times place any count same first each upTo firstOf badField textFits next copies expandFrom isNine isSuppressible isDigit isFirstDrifting opens isStatic isSign drifts driftsSign number numbers suppresses kindUpTo rolesFrom formOf meaning oneV drifting oneDrifts suppressionApart ninesLast suppressedPlaces oneSign staticsPlaced driftsBeforeV formShape shape whole places digitsFit verdict digitsOf valueOf inRange aligned isMinus hasSign tooBig fill mark digitChar printed suppressed cell opening allSuppressible digitAt isShown firstShown start inStretch driftsTo cellAt isBlank field edited checkAnswer editNumber editAnswer editMemory readAnswer digitIn shownIn worthOf minusFits readOf Holds All
-others-hold = ((refl, refl), ((refl, refl), ((refl, refl), (refl, (refl, ((refl, refl), ((refl, refl), (refl, (refl, (refl, (refl, (refl, (refl, (refl, tt))))))))))))))
+unfolding definitions
+others-hold = all-hold others refl
 
--- the plan, and that the layout has it
-pub plan-example : (compileAnswer exampleLayout examplePlan ≡ answer 0 0 17 (pos 0)) × (compileMemory exampleLayout (map (λ b. 0) examplePlan) ≡ examplePlan)
-unfolding has times place any count same first each upTo firstOf badField textFits next copies expandFrom isNine isSuppressible isDigit isFirstDrifting opens isStatic isSign drifts driftsSign number numbers suppresses kindUpTo rolesFrom formOf meaning oneV drifting oneDrifts suppressionApart ninesLast suppressedPlaces oneSign staticsPlaced driftsBeforeV formShape shape whole places digitsFit verdict digitsOf valueOf inRange aligned isMinus hasSign tooBig fill mark digitChar printed suppressed cell opening allSuppressible digitAt isShown firstShown start inStretch driftsTo cellAt isBlank field edited cut closes countFits forms recordLength headers positions planOf numberOver answerOver compileNumber compileAnswer compileMemory
-plan-example = (refl, refl)
+-- Our own, by subject.
 
-example-accepted : accepted exampleLayout ≡ true
-unfolding has times place any count same firstOf textFits next copies expandFrom isNine isSuppressible isDigit isFirstDrifting isStatic isSign driftsSign number numbers suppresses kindUpTo rolesFrom formOf meaning oneV drifting oneDrifts suppressionApart ninesLast suppressedPlaces oneSign staticsPlaced driftsBeforeV formShape shape digitsFit verdict cut closes countFits accepted forms
-example-accepted = refl
+pub statics-hold : All Lines.statics
+unfolding definitions
+statics-hold = all-hold Lines.statics refl
 
--- the listing
-pub listing-example : Lists exampleInput exampleListing
-unfolding has times place any count same first each upTo firstOf badField textFits next copies expandFrom isNine isSuppressible isDigit isFirstDrifting opens isStatic isSign drifts driftsSign number numbers suppresses kindUpTo rolesFrom formOf meaning oneV drifting oneDrifts suppressionApart ninesLast suppressedPlaces oneSign staticsPlaced driftsBeforeV formShape shape whole places digitsFit verdict digitsOf valueOf inRange aligned isMinus hasSign tooBig fill mark digitChar printed suppressed cell opening allSuppressible digitAt isShown firstShown start inStretch driftsTo cellAt isBlank field edited cut closes countFits accepted forms recordLength headers positions planOf numberOver answerOver compileNumber compileAnswer readBefore recordAnswer digitIn shownIn worthOf minusFits readOf readAll linesFrom trimmed decimal line answerLine layoutLine recordLine recordLines listed
-listing-example = (readEach (forms exampleLayout) exampleRecords, read-each (forms exampleLayout) exampleRecords (forms-good exampleLayout example-accepted), refl)
+pub drifting-hold : All Lines.drifting
+unfolding definitions
+drifting-hold = all-hold Lines.drifting refl
 
-pub empty-input : Lists [] (text "0,11,0\n")
-unfolding has times place any count same first each upTo firstOf badField textFits next copies expandFrom isNine isSuppressible isDigit isFirstDrifting opens isStatic isSign drifts driftsSign number numbers suppresses kindUpTo rolesFrom formOf meaning oneV drifting oneDrifts suppressionApart ninesLast suppressedPlaces oneSign staticsPlaced driftsBeforeV formShape shape whole places digitsFit verdict digitsOf valueOf inRange aligned isMinus hasSign tooBig fill mark digitChar printed suppressed cell opening allSuppressible digitAt isShown firstShown start inStretch driftsTo cellAt isBlank field edited cut closes countFits forms recordLength headers positions planOf numberOver answerOver compileAnswer linesFrom trimmed decimal line answerLine layoutLine
-empty-input = refl
+pub insertions-hold : All Lines.insertions
+unfolding definitions
+insertions-hold = all-hold Lines.insertions refl
+
+pub digits-hold : All Lines.digits
+unfolding definitions
+digits-hold = all-hold Lines.digits refl
+
+pub blanks-hold : All Lines.blanks
+unfolding definitions
+blanks-hold = all-hold Lines.blanks refl
+
+pub alignment-hold : All Lines.alignment
+unfolding definitions
+alignment-hold = all-hold Lines.alignment refl
+
+pub readings-hold : All Lines.readings
+unfolding definitions
+readings-hold = all-hold Lines.readings refl
+
+pub texts-hold : All Lines.texts
+unfolding definitions
+texts-hold = all-hold Lines.texts refl
+
+pub shapes-hold : All Lines.shapes
+unfolding definitions
+shapes-hold = all-hold Lines.shapes refl
+
+pub limits-hold : All Lines.limits
+unfolding definitions
+limits-hold = all-hold Lines.limits refl
+
+pub layouts-hold : All Lines.layouts
+unfolding definitions
+layouts-hold = all-hold Lines.layouts refl
+
+pub memory-hold : All Lines.memory
+unfolding definitions
+memory-hold = all-hold Lines.memory refl
+
+pub orders-hold : All Lines.orders
+unfolding definitions
+orders-hold = all-hold Lines.orders refl
+
+pub plans-hold : All Lines.plans
+unfolding definitions
+plans-hold = all-hold Lines.plans refl
+
+pub no-plans-hold : All Lines.noPlans
+unfolding definitions
+no-plans-hold = all-hold Lines.noPlans refl
+
+pub runs-hold : All Lines.runs
+unfolding definitions
+runs-hold = all-hold Lines.runs refl
+
+pub listings-hold : All Lines.listings
+unfolding definitions
+listings-hold = all-hold Lines.listings refl
+
+-- An input of over 65,536 bytes gives one line; of any other the lines are listed.
+
+pub over-limit : (input : List ℕ) → 65537 ≤ length input → Lists input (text "0,13,0\n")
+unfolding definitions overLimit
+over-limit input h = rw (lt-leb (length input) mostInput (omega arith))
+
+pub within-limit : (input out : List ℕ) → length input ≤ 65536 → Lists input out ≡ ListsLines (linesFrom [] input) out
+within-limit input out h = rw (le-leb (length input) mostInput (omega arith))

@@ -19,4 +19,5 @@ pub mod Unique
 pub mod Exact
 pub mod PlanWalk
 pub mod Outcomes
+pub mod Holding
 pub mod Examples

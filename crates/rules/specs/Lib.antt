@@ -13,6 +13,7 @@ pub mod Answers
 pub mod Collector
 pub mod Lister
 pub mod Sheet
+pub mod Lines
 pub mod Cells
 pub mod Good
 pub mod PlanBytes

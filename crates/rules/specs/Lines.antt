@@ -1,0 +1,470 @@
+-- Examples of our own, beside the sheet: one list a subject, which together hold down what every definition says, in plain numbers and texts.
+-- Each symbol stands here with both signs, each number that comes back, each rule of shape, each limit on both sides, each two refusals that
+-- follow one another in their order, and each byte of a plan. proofs/Examples.antt proves them. Assumes nothing.
+use Prim.Native.String.{String}
+use mathlib.Core.List.{List, [], _∷_, _++_}
+use lib.IntN.{pos}
+use lib.ListN.{replicate}
+use Rattle.rules.specs.Words.{text}
+use Rattle.rules.specs.Sheet.{Line, accepts, compiles, compilesInto, edits, editsInto, forbids, joined, keeps, lists, minus, noPlan, packs, planEdits, planReads, reads, readsRun, refusal, refuses, rejects, repeated, series, spoils, stores, success}
+
+-- Each sign and the dollar sign standing still, before the digits and behind them, with both signs.
+abbrev pub statics : List Line
+statics =
+    edits "S9" (pos 5) 0 "+5" ∷
+    edits "S9" (minus 5) 0 "-5" ∷
+    edits "9S" (pos 5) 0 "5+" ∷
+    edits "9S" (minus 5) 0 "5-" ∷
+    edits "+9" (pos 5) 0 "+5" ∷
+    edits "+9" (minus 5) 0 " 5" ∷
+    edits "9+" (pos 5) 0 "5+" ∷
+    edits "9+" (minus 5) 0 "5 " ∷
+    edits "-9" (pos 5) 0 " 5" ∷
+    edits "-9" (minus 5) 0 "-5" ∷
+    edits "9-" (pos 5) 0 "5 " ∷
+    edits "9-" (minus 5) 0 "5-" ∷
+    edits "9CR" (pos 5) 0 "5  " ∷
+    edits "9CR" (minus 5) 0 "5CR" ∷
+    edits "9DB" (pos 5) 0 "5  " ∷
+    edits "9DB" (minus 5) 0 "5DB" ∷
+    edits "S$9" (pos 5) 0 "+$5" ∷
+    edits "S$9" (minus 5) 0 "-$5" ∷
+    edits "9$S" (pos 5) 0 "5$+" ∷
+    edits "9$S" (minus 5) 0 "5$-" ∷ []
+
+-- The same drifting, with both signs; the character stands last in the stretch, at an insertion's position too.
+abbrev pub drifting : List Line
+drifting =
+    edits "SSS9" (pos 5) 0 "  +5" ∷
+    edits "SSS9" (minus 5) 0 "  -5" ∷
+    edits "SSS9" (pos 12) 0 " +12" ∷
+    edits "SSS9" (minus 123) 0 "-123" ∷
+    edits "+++9" (pos 7) 0 "  +7" ∷
+    edits "+++9" (minus 70) 0 "  70" ∷
+    edits "---9" (pos 7) 0 "   7" ∷
+    edits "---9" (minus 700) 0 "-700" ∷
+    edits "$$$9" (pos 7) 0 "  $7" ∷
+    edits "$$9CR" (pos 7) 0 " $7  " ∷
+    edits "$$9CR" (minus 7) 0 " $7CR" ∷
+    edits "S$$9" (minus 7) 0 "- $7" ∷
+    edits "$$,9" (pos 5) 0 "  $5" ∷
+    edits "--B9" (minus 5) 0 "  -5" ∷
+    edits "$V$" (pos 5) 1 "$5" ∷
+    edits "$,V.$" (pos 5) 1 " $.5" ∷ []
+
+-- Each insertion with both signs, and inside the stretch and outside it: before it, behind it and between digits that print.
+abbrev pub insertions : List Line
+insertions =
+    edits "S9,9.9/9B9" (pos 12345) 0 "+1,2.3/4 5" ∷
+    edits "S9,9.9/9B9" (minus 12345) 0 "-1,2.3/4 5" ∷
+    edits "Z,Z.Z/ZB9" (pos 12345) 0 "1,2.3/4 5" ∷
+    edits "Z,Z.Z/ZB9" (pos 345) 0 "    3/4 5" ∷
+    edits "Z,Z.Z/ZB9" (pos 5) 0 "        5" ∷
+    edits "*,*.*/*B9" (pos 12345) 0 "1,2.3/4 5" ∷
+    edits "*,*.*/*B9" (pos 345) 0 "****3/4 5" ∷
+    edits "*,*.*/*B9" (pos 5) 0 "********5" ∷
+    edits "-,-.-/-B9" (minus 1345) 0 " -1.3/4 5" ∷
+    edits ",./BZZ,./B" (pos 5) 0 ",./  5,./ " ∷
+    edits "V,.ZZ" (pos 1) 2 ",.01" ∷
+    edits "ZV.9" (pos 0) 0 " .0" ∷ []
+
+-- 9, Z, * and V: leading zeros, where printing starts, and a sign beside them.
+abbrev pub digits : List Line
+digits =
+    edits "999" (pos 7) 0 "007" ∷
+    edits "ZZZ" (pos 7) 0 "  7" ∷
+    edits "***" (pos 7) 0 "**7" ∷
+    edits "ZZ9" (pos 700) 0 "700" ∷
+    edits "**9" (pos 70) 0 "*70" ∷
+    edits "S999" (minus 7) 0 "-007" ∷
+    edits "-ZZ9" (minus 7) 0 "-  7" ∷
+    edits "-**9" (minus 7) 0 "-**7" ∷
+    edits "-**9" (pos 7) 0 " **7" ∷
+    edits "9V9" (pos 15) 1 "15" ∷
+    edits "ZV9" (pos 5) 1 " 5" ∷
+    edits "*V.99" (pos 5) 2 "*.05" ∷
+    edits "V99" (pos 5) 2 "05" ∷
+    edits "VZZ" (pos 5) 2 "05" ∷
+    edits "ZZ.VZZ" (pos 5) 2 "   05" ∷
+    edits "ZZV.ZZ" (pos 5) 2 "  .05" ∷
+    edits "V$9" (pos 5) 1 "$5" ∷ []
+
+-- Everything suppressed: signs, $ and insertions take the fill, under Z, under * and under a drifting symbol; but not where there is a 9.
+abbrev pub blanks : List Line
+blanks =
+    edits "S$Z,Z.Z/ZBZ" (pos 0) 0 "           " ∷
+    edits "S$*,*.*/*B*" (pos 0) 0 "***********" ∷
+    edits "ZZCR" (minus 9) 1 "    " ∷
+    edits "ZZDB" (pos 0) 0 "    " ∷
+    edits "**CR" (minus 9) 1 "****" ∷
+    edits "**DB" (pos 0) 0 "****" ∷
+    edits "+ZZ" (pos 0) 0 "   " ∷
+    edits "-**" (pos 0) 0 "***" ∷
+    edits "SS,SS" (pos 0) 0 "     " ∷
+    edits "++" (pos 0) 0 "  " ∷
+    edits "--V.--" (pos 0) 2 "     " ∷
+    edits "$$CR" (pos 0) 0 "    " ∷
+    edits "S$Z9" (pos 0) 0 "+$ 0" ∷
+    edits "-**9" (pos 0) 0 " **0" ∷
+    reads "+ZZ" "   " (pos 0) ∷
+    reads "**CR" "****" (pos 0) ∷
+    rejects "**CR" "**  " 10 ∷
+    rejects "***" "   " 10 ∷
+    rejects "$ZZ" "$  " 10 ∷ []
+
+-- Alignment: the cut toward zero, the sign plus of a zero, and what is too big.
+abbrev pub alignment : List Line
+alignment =
+    edits "S9V9" (pos 199) 2 "+19" ∷
+    edits "S9V9" (minus 199) 2 "-19" ∷
+    edits "9V99" (pos 5) 0 "500" ∷
+    edits "S9" (minus 9) 1 "+0" ∷
+    edits "+9" (minus 9) 1 "+0" ∷
+    edits "-9" (minus 9) 1 " 0" ∷
+    edits "9CR" (minus 9) 1 "0  " ∷
+    edits "9DB" (minus 9) 1 "0  " ∷
+    edits "SS9" (minus 9) 1 " +0" ∷
+    edits "++9" (minus 9) 1 " +0" ∷
+    edits "--9" (minus 9) 1 "  0" ∷
+    edits "9" (pos 99) 1 "9" ∷
+    refuses "9" (pos 100) 1 8 ∷
+    edits "V99" (pos 9999) 4 "99" ∷
+    refuses "V99" (pos 1) 0 8 ∷
+    refuses "S99" (minus 100) 0 8 ∷
+    edits "$ZV9" (minus 9) 2 "$ 0" ∷
+    refuses "$ZV9" (minus 10) 2 8 ∷ []
+
+-- Reading takes each symbol's characters for both signs, and nothing else: no minus zero, no blank for a 9, no other fill.
+abbrev pub readings : List Line
+readings =
+    reads "S9V9" "+19" (pos 19) ∷
+    reads "S9V9" "-19" (minus 19) ∷
+    reads "+9" "+5" (pos 5) ∷
+    reads "+9" " 5" (minus 5) ∷
+    reads "-9" " 5" (pos 5) ∷
+    reads "-9" "-5" (minus 5) ∷
+    reads "9CR" "5  " (pos 5) ∷
+    reads "9CR" "5CR" (minus 5) ∷
+    reads "9DB" "5  " (pos 5) ∷
+    reads "9DB" "5DB" (minus 5) ∷
+    reads "SSS9" " +12" (pos 12) ∷
+    reads "SSS9" "  -5" (minus 5) ∷
+    reads "+++9" "  70" (minus 70) ∷
+    reads "---9" "-700" (minus 700) ∷
+    reads "$$,$$9CR" "$1,234CR" (minus 1234) ∷
+    reads "*,*.*/*B9" "****3/4 5" (pos 345) ∷
+    rejects "S9" "-0" 10 ∷
+    rejects "+9" " 0" 10 ∷
+    rejects "-9" "-0" 10 ∷
+    rejects "9CR" "0CR" 10 ∷
+    rejects "9DB" "0DB" 10 ∷
+    rejects "9CR" "5DB" 10 ∷
+    rejects "9" " " 10 ∷
+    rejects "9V9" "1 " 10 ∷
+    rejects "ZZ9" "*12" 10 ∷
+    rejects "9/9" "1-2" 10 ∷
+    rejects "9B9" "1B2" 10 ∷
+    rejects "$$9" "$ 5" 10 ∷ []
+
+-- From text to symbols: factors, the marks as the last two bytes, and what is kept of a picture, in a room of 64.
+abbrev pub texts : List Line
+texts =
+    accepts "(2)9(1)B9" 4 ∷
+    accepts "(02)9" 2 ∷
+    accepts "9(2)B" 3 ∷
+    accepts "9BDB" 4 ∷
+    edits "9BDB" (minus 1) 0 "1 DB" ∷
+    forbids "(003)9" 2 ∷
+    forbids "()9" 2 ∷
+    forbids "(1)(2)9" 2 ∷
+    forbids "9(2)" 2 ∷
+    forbids "9(1)V9" 2 ∷
+    forbids "9(1)CR" 2 ∷
+    forbids "9(1)DB" 2 ∷
+    forbids "9CRV" 2 ∷
+    forbids "9DBB" 2 ∷
+    forbids "CR9" 2 ∷
+    forbids "9R" 2 ∷
+    forbids "9D" 2 ∷
+    forbids "z" 2 ∷
+    forbids " 9" 2 ∷
+    keeps "(2)9V9CR" (text "99V9CR" ++ replicate 58 0) 6 ∷
+    keeps "9Z" (replicate 64 0) 0 ∷ []
+
+-- Each rule of shape: what breaks it, and beside it a neighbour that doesn't.
+abbrev pub shapes : List Line
+shapes =
+    -- one V
+    forbids "9V9V" 4 ∷
+    forbids "VV9" 4 ∷
+    accepts "9V9" 2 ∷
+    -- one kind drifts, and one that occurs once doesn't
+    forbids "++--" 4 ∷
+    forbids "SS$$" 4 ∷
+    accepts "S$$9" 4 ∷
+    -- Z, * and drifting symbols each alone
+    forbids "Z*" 4 ∷
+    forbids "*Z9" 4 ∷
+    forbids "Z$$" 4 ∷
+    forbids "SSZ" 4 ∷
+    forbids "$$*" 4 ∷
+    forbids "*--" 4 ∷
+    accepts "$Z" 2 ∷
+    accepts "-**" 3 ∷
+    -- no suppressible digit behind a 9
+    forbids "9*" 4 ∷
+    forbids "9$$" 4 ∷
+    forbids "$$9$" 4 ∷
+    accepts "Z9" 2 ∷
+    -- one behind V only where all are suppressible
+    forbids "9VZ" 4 ∷
+    forbids "ZVZ9" 4 ∷
+    forbids "$$9V$" 4 ∷
+    accepts "ZVZ" 2 ∷
+    accepts "$$V$" 3 ∷
+    accepts "ZV9" 2 ∷
+    -- one sign
+    forbids "S+9" 4 ∷
+    forbids "S9-" 4 ∷
+    forbids "+9-" 4 ∷
+    forbids "-9CR" 4 ∷
+    forbids "+9DB" 4 ∷
+    forbids "S9CR" 4 ∷
+    forbids "SS9DB" 4 ∷
+    forbids "--9CR" 4 ∷
+    forbids "++9S" 4 ∷
+    accepts "$9CR" 4 ∷
+    accepts "$$9DB" 5 ∷
+    -- a static symbol outside the digits and the drifting symbols
+    forbids "9$9" 4 ∷
+    forbids "9S9" 4 ∷
+    forbids "ZV-Z" 4 ∷
+    forbids "$S$" 4 ∷
+    forbids "S$S" 4 ∷
+    forbids "$$S9" 4 ∷
+    accepts "S$9" 3 ∷
+    accepts "9S$" 3 ∷
+    accepts "S9$" 3 ∷
+    accepts "$$9S" 4 ∷
+    -- which isn't judged where there is no digit, though the others are
+    forbids "S$" 5 ∷
+    forbids "$,S" 5 ∷
+    forbids "S+" 4 ∷
+    forbids "+DB" 4 ∷
+    forbids "VV" 4 ∷
+    -- V not before the first drifting symbol
+    forbids "V$$" 4 ∷
+    forbids "V,--9" 4 ∷
+    accepts "$V$" 2 ∷
+    accepts "V$9" 2 ∷
+    accepts "9-V" 2 ∷ []
+
+-- The longest picture text: 128 bytes, of 28 positions.
+abbrev pub longest : String
+longest = joined (repeated 25 "(01)B") "999"
+
+-- Each limit of a picture, a value and a layout, on both sides.
+abbrev pub limits : List Line
+limits =
+    -- bytes of a text
+    forbids "" 1 ∷
+    accepts "9" 1 ∷
+    accepts longest 28 ∷
+    forbids (joined longest "9") 1 ∷
+    forbids (repeated 128 "9") 3 ∷
+    forbids (repeated 129 "9") 1 ∷
+    -- a factor
+    forbids "(0)B9" 2 ∷
+    forbids "(00)B9" 2 ∷
+    accepts "(1)B9" 2 ∷
+    forbids "(64)B" 5 ∷
+    forbids "(65)B" 2 ∷
+    -- symbols, where V counts one and a mark two
+    accepts "(63)B9" 64 ∷
+    forbids "(64)B9" 3 ∷
+    accepts "(62)B9V" 63 ∷
+    forbids "(63)B9V" 3 ∷
+    accepts "(61)B9CR" 64 ∷
+    forbids "(62)B9CR" 3 ∷
+    accepts "(60)B9VDB" 63 ∷
+    forbids "(61)B9VDB" 3 ∷
+    -- digits
+    forbids "B" 5 ∷
+    forbids "V" 5 ∷
+    accepts "(15)Z" 15 ∷
+    forbids "(16)Z" 5 ∷
+    accepts "(16)$" 16 ∷
+    forbids "(17)$" 5 ∷
+    accepts "(8)9V(7)9" 15 ∷
+    forbids "(8)9V(8)9" 5 ∷
+    -- the scale of a value
+    edits "V(15)9" (pos 123) 15 "000000000000123" ∷
+    refuses "V(15)9" (pos 123) 16 6 ∷
+    refuses "9" (pos 0) 16 6 ∷
+    -- its magnitude
+    edits "S(15)9" (pos 999999999999999) 0 "+999999999999999" ∷
+    refuses "S(15)9" (pos 1000000000000000) 0 6 ∷
+    edits "S(15)9" (minus 999999999999999) 0 "-999999999999999" ∷
+    refuses "S(15)9" (minus 1000000000000000) 0 6 ∷
+    -- what a picture holds
+    edits "99" (pos 99) 0 "99" ∷
+    refuses "99" (pos 100) 0 8 ∷ []
+
+-- Each limit of a layout, on both sides.
+abbrev pub layouts : List Line
+layouts =
+    spoils "" 11 0 ∷
+    spoils "9" 11 0 ∷
+    spoils "9;9" 11 0 ∷
+    spoils ";" 1 1 ∷
+    compiles (repeated 32 "9;") (32 ∷ series 32 (1 ∷ 1 ∷ 0 ∷ []) ++ (0 ∷ 32 ∷ replicate 32 0)) ∷
+    spoils (repeated 33 "9;") 11 0 ∷
+    spoils (repeated 32 ";") 1 1 ∷
+    spoils (repeated 33 ";") 11 0 ∷
+    -- 4,128 bytes, and 4,129
+    compiles (repeated 32 (joined longest ";")) (32 ∷ series 32 (28 ∷ 28 ∷ 0 ∷ []) ++ (3 ∷ 128 ∷ series 32 (replicate 25 10 ++ replicate 3 0))) ∷
+    spoils (joined (repeated 31 (joined longest ";")) (joined longest "9;")) 11 0 ∷ []
+
+-- What is written stands first in the lent memory; the rest of it stays, and a refusal leaves all of it.
+abbrev pub memory : List Line
+memory =
+    editsInto "99" (pos 7) 0 "####" (success 2 (pos 0)) "07##" ∷
+    editsInto "99" (pos 7) 0 "#" (refusal 7 0) "#" ∷
+    editsInto "99" (pos 100) 0 "####" (refusal 8 0) "####" ∷
+    compilesInto "9;" (replicate 8 99) (success 7 (pos 0)) (1 ∷ 1 ∷ 1 ∷ 0 ∷ 0 ∷ 1 ∷ 0 ∷ 99 ∷ []) ∷
+    compilesInto "9;" (replicate 6 99) (refusal 7 0) (replicate 6 99) ∷
+    compilesInto "9Z;" (replicate 8 99) (refusal 4 1) (replicate 8 99) ∷
+    planReads "9;99;S9;" "122-3" (pos 5 ∷ pos 5 ∷ pos 5 ∷ pos 5 ∷ []) (success 3 (pos 0)) (pos 1 ∷ pos 22 ∷ minus 3 ∷ pos 5 ∷ []) ∷
+    planReads "9;99;S9;" "122-x" (pos 5 ∷ pos 5 ∷ pos 5 ∷ []) (refusal 10 3) (pos 5 ∷ pos 5 ∷ pos 5 ∷ []) ∷
+    planEdits "9;99V9;S9;" (pos 9 ∷ pos 7 ∷ minus 9 ∷ []) "########" (success 6 (pos 0)) "9007-9##" ∷
+    planEdits "9;99V9;S9;" (pos 9 ∷ pos 7 ∷ minus 10 ∷ []) "########" (refusal 8 3) "########" ∷ []
+
+-- The order of refusals: of each two that follow one another both apply, and the first is given.
+abbrev pub orders : List Line
+orders =
+    -- a picture: 1, 2, 3, 4, 5
+    forbids (repeated 129 "Q") 1 ∷
+    forbids "(64)9(64)9Q" 2 ∷
+    forbids "(64)9Z" 3 ∷
+    forbids "(16)9Z" 4 ∷
+    forbids "(16)9" 5 ∷
+    -- editing: picture, 6, 8, 7
+    refuses "9Z" (pos 1000000000000000) 0 4 ∷
+    refuses "(16)9" (pos 1) 16 5 ∷
+    refuses "9" (minus 1000000000000000) 0 6 ∷
+    refuses "9" (pos 100) 16 6 ∷
+    editsInto "9" (pos 10) 0 "" (refusal 8 0) "" ∷
+    editsInto "9" (pos 9) 0 "" (refusal 7 0) "" ∷
+    -- reading: picture, 9, 10
+    rejects "9Z" "x" 4 ∷
+    rejects "(16)9" "" 5 ∷
+    rejects "9" "" 9 ∷
+    rejects "9" "xx" 9 ∷
+    rejects "9" "x" 10 ∷
+    -- compiling: 11, the first bad picture, 7
+    spoils "9Z;9" 11 0 ∷
+    spoils "9;Z;9Z;Q;" 4 3 ∷
+    spoils "9;;" 1 2 ∷
+    spoils "Q;9Z;" 2 1 ∷
+    spoils "9;(64)9V;" 3 2 ∷
+    spoils "9;9;CR;" 5 3 ∷
+    compilesInto "9;9Z;" [] (refusal 4 2) [] ∷
+    compilesInto "9;" [] (refusal 7 0) [] ∷
+    -- plan reading: 9, 7, the first field with 10
+    planReads "9;99;S9;" "x" [] (refusal 9 0) [] ∷
+    planReads "9;99;S9;" "x22+33" (pos 5 ∷ pos 5 ∷ pos 5 ∷ []) (refusal 9 0) (pos 5 ∷ pos 5 ∷ pos 5 ∷ []) ∷
+    planReads "9;99;S9;" "x22+3" (pos 5 ∷ pos 5 ∷ []) (refusal 7 0) (pos 5 ∷ pos 5 ∷ []) ∷
+    planReads "9;99;S9;" "12x 3" (pos 5 ∷ pos 5 ∷ pos 5 ∷ []) (refusal 10 2) (pos 5 ∷ pos 5 ∷ pos 5 ∷ []) ∷
+    -- plan editing: 9, the first field with 6 or 8 and there 6 before 8, 7
+    planEdits "9;99V9;S9;" (pos 10 ∷ pos 1000000000000000 ∷ []) "" (refusal 9 0) "" ∷
+    planEdits "9;99V9;S9;" (pos 1 ∷ pos 2 ∷ pos 3 ∷ pos 4 ∷ []) "######" (refusal 9 0) "######" ∷
+    planEdits "9;99V9;S9;" (pos 10 ∷ pos 1000000000000000 ∷ pos 0 ∷ []) "######" (refusal 8 1) "######" ∷
+    planEdits "9;99V9;S9;" (pos 9 ∷ minus 1000000000000000 ∷ pos 10 ∷ []) "######" (refusal 6 2) "######" ∷
+    planEdits "9;99V9;S9;" (pos 9 ∷ minus 1 ∷ minus 9 ∷ []) "" (refusal 8 2) "" ∷
+    planEdits "9;99V9;S9;" (pos 9 ∷ pos 999 ∷ pos 1000000000000000 ∷ []) "" (refusal 6 3) "" ∷
+    planEdits "9;99V9;S9;" (pos 9 ∷ pos 999 ∷ minus 9 ∷ []) "#####" (refusal 7 0) "#####" ∷ []
+
+-- Each byte of a plan: the roles 0 to 14, the kinds 0 to 6, V at every place, and a record length of two bytes.
+abbrev pub plans : List Line
+plans =
+    compiles "9;" (1 ∷ 1 ∷ 1 ∷ 0 ∷ 0 ∷ 1 ∷ 0 ∷ []) ∷
+    compiles "ZZ9;" (1 ∷ 3 ∷ 3 ∷ 1 ∷ 0 ∷ 3 ∷ 1 ∷ 1 ∷ 0 ∷ []) ∷
+    compiles "**;" (1 ∷ 2 ∷ 2 ∷ 2 ∷ 0 ∷ 2 ∷ 1 ∷ 1 ∷ []) ∷
+    compiles "SS9;" (1 ∷ 3 ∷ 3 ∷ 3 ∷ 0 ∷ 3 ∷ 2 ∷ 1 ∷ 0 ∷ []) ∷
+    compiles "++9;" (1 ∷ 3 ∷ 3 ∷ 4 ∷ 0 ∷ 3 ∷ 2 ∷ 1 ∷ 0 ∷ []) ∷
+    compiles "--9;" (1 ∷ 3 ∷ 3 ∷ 5 ∷ 0 ∷ 3 ∷ 2 ∷ 1 ∷ 0 ∷ []) ∷
+    compiles "$$9;" (1 ∷ 3 ∷ 3 ∷ 6 ∷ 0 ∷ 3 ∷ 2 ∷ 1 ∷ 0 ∷ []) ∷
+    compiles "S9;" (1 ∷ 2 ∷ 2 ∷ 0 ∷ 0 ∷ 2 ∷ 3 ∷ 0 ∷ []) ∷
+    compiles "+9;" (1 ∷ 2 ∷ 2 ∷ 0 ∷ 0 ∷ 2 ∷ 4 ∷ 0 ∷ []) ∷
+    compiles "-9;" (1 ∷ 2 ∷ 2 ∷ 0 ∷ 0 ∷ 2 ∷ 5 ∷ 0 ∷ []) ∷
+    compiles "$9;" (1 ∷ 2 ∷ 2 ∷ 0 ∷ 0 ∷ 2 ∷ 6 ∷ 0 ∷ []) ∷
+    compiles "9,./B;" (1 ∷ 5 ∷ 5 ∷ 0 ∷ 0 ∷ 5 ∷ 0 ∷ 7 ∷ 8 ∷ 9 ∷ 10 ∷ []) ∷
+    compiles "9CR;" (1 ∷ 3 ∷ 3 ∷ 0 ∷ 0 ∷ 3 ∷ 0 ∷ 11 ∷ 12 ∷ []) ∷
+    compiles "9DB;" (1 ∷ 3 ∷ 3 ∷ 0 ∷ 0 ∷ 3 ∷ 0 ∷ 13 ∷ 14 ∷ []) ∷
+    compiles "9V9;" (1 ∷ 2 ∷ 1 ∷ 0 ∷ 0 ∷ 2 ∷ 0 ∷ 0 ∷ []) ∷
+    compiles "V9;" (1 ∷ 1 ∷ 0 ∷ 0 ∷ 0 ∷ 1 ∷ 0 ∷ []) ∷
+    compiles "9V;" (1 ∷ 1 ∷ 1 ∷ 0 ∷ 0 ∷ 1 ∷ 0 ∷ []) ∷
+    compiles "9VCR;" (1 ∷ 3 ∷ 1 ∷ 0 ∷ 0 ∷ 3 ∷ 0 ∷ 11 ∷ 12 ∷ []) ∷
+    compiles (repeated 5 "(63)B9;") (5 ∷ series 5 (64 ∷ 64 ∷ 0 ∷ []) ++ (1 ∷ 64 ∷ series 5 (replicate 63 10 ++ (0 ∷ [])))) ∷ []
+
+-- Bytes that are no plan: no field, a byte less or more, another count, the count's bytes exchanged, a kind that no position bears out, V
+-- within a mark, half a mark, two signs, a symbol drifting and static, 64 positions and a V, 16 digits, 33 fields.
+abbrev pub noPlans : List Line
+noPlans =
+    noPlan [] ∷
+    noPlan (0 ∷ 0 ∷ 0 ∷ []) ∷
+    noPlan (1 ∷ 1 ∷ 1 ∷ 0 ∷ 0 ∷ 1 ∷ []) ∷
+    noPlan (1 ∷ 1 ∷ 1 ∷ 0 ∷ 0 ∷ 1 ∷ 0 ∷ 0 ∷ []) ∷
+    noPlan (1 ∷ 1 ∷ 1 ∷ 0 ∷ 0 ∷ 2 ∷ 0 ∷ []) ∷
+    noPlan (1 ∷ 1 ∷ 1 ∷ 0 ∷ 1 ∷ 0 ∷ 0 ∷ []) ∷
+    noPlan (1 ∷ 1 ∷ 1 ∷ 1 ∷ 0 ∷ 1 ∷ 0 ∷ []) ∷
+    noPlan (1 ∷ 1 ∷ 1 ∷ 7 ∷ 0 ∷ 1 ∷ 0 ∷ []) ∷
+    noPlan (1 ∷ 1 ∷ 2 ∷ 0 ∷ 0 ∷ 1 ∷ 0 ∷ []) ∷
+    noPlan (1 ∷ 2 ∷ 2 ∷ 0 ∷ 0 ∷ 2 ∷ 0 ∷ 15 ∷ []) ∷
+    noPlan (1 ∷ 2 ∷ 2 ∷ 1 ∷ 0 ∷ 2 ∷ 0 ∷ 1 ∷ []) ∷
+    noPlan (1 ∷ 3 ∷ 2 ∷ 0 ∷ 0 ∷ 3 ∷ 0 ∷ 11 ∷ 12 ∷ []) ∷
+    noPlan (1 ∷ 3 ∷ 3 ∷ 0 ∷ 0 ∷ 3 ∷ 0 ∷ 13 ∷ 10 ∷ []) ∷
+    noPlan (1 ∷ 3 ∷ 3 ∷ 0 ∷ 0 ∷ 3 ∷ 3 ∷ 0 ∷ 5 ∷ []) ∷
+    noPlan (1 ∷ 3 ∷ 3 ∷ 3 ∷ 0 ∷ 3 ∷ 3 ∷ 2 ∷ 1 ∷ []) ∷
+    noPlan (1 ∷ 64 ∷ 1 ∷ 0 ∷ 0 ∷ 64 ∷ 0 ∷ replicate 63 10) ∷
+    noPlan (1 ∷ 16 ∷ 16 ∷ 0 ∷ 0 ∷ 16 ∷ replicate 16 0) ∷
+    noPlan (33 ∷ series 33 (1 ∷ 1 ∷ 0 ∷ []) ++ (0 ∷ 33 ∷ replicate 33 0)) ∷ []
+
+-- For C programs: the number, 256 times the field and 65,536 times the length as one; a row as eight bytes a number, the low byte first and a
+-- negative one in two's complement; and a field read into a run: picture, 9, 7, 10.
+abbrev pub runs : List Line
+runs =
+    packs (success 17 (pos 0)) 1114112 ∷
+    packs (success 1 (minus 7)) 65536 ∷
+    packs (refusal 12 0) 12 ∷
+    packs (refusal 10 1) 266 ∷
+    packs (refusal 4 2) 516 ∷
+    packs (refusal 8 32) 8200 ∷
+    stores (pos 258 ∷ []) (2 ∷ 1 ∷ 0 ∷ 0 ∷ 0 ∷ 0 ∷ 0 ∷ 0 ∷ []) ∷
+    stores (minus 2 ∷ []) (254 ∷ 255 ∷ 255 ∷ 255 ∷ 255 ∷ 255 ∷ 255 ∷ 255 ∷ []) ∷
+    stores (pos 7 ∷ minus 1 ∷ []) (7 ∷ 0 ∷ 0 ∷ 0 ∷ 0 ∷ 0 ∷ 0 ∷ 0 ∷ replicate 8 255) ∷
+    stores (pos 999999999999999 ∷ []) (255 ∷ 127 ∷ 198 ∷ 164 ∷ 126 ∷ 141 ∷ 3 ∷ 0 ∷ []) ∷
+    stores (minus 999999999999999 ∷ []) (1 ∷ 128 ∷ 57 ∷ 91 ∷ 129 ∷ 114 ∷ 252 ∷ 255 ∷ []) ∷
+    readsRun "-9" "-2" (replicate 9 238) 65536 (254 ∷ 255 ∷ 255 ∷ 255 ∷ 255 ∷ 255 ∷ 255 ∷ 255 ∷ 238 ∷ []) ∷
+    readsRun "9Z" "1" [] 4 [] ∷
+    readsRun "-9" "x" (replicate 7 238) 9 (replicate 7 238) ∷
+    readsRun "-9" "-0" (replicate 7 238) 7 (replicate 7 238) ∷
+    readsRun "-9" "-0" (replicate 8 238) 10 (replicate 8 238) ∷ []
+
+-- The lister: the layout alone, a last line with and without its LF, empty lines, a layout that is refused with its number and field, records
+-- of another length, any byte but LF kept, and negative values.
+abbrev pub listings : List Line
+listings =
+    lists "9;" "0,0,0,1,1\n" ∷
+    lists "9;\n" "0,0,0,1,1\n" ∷
+    lists "9;\n5" "0,0,0,1,1\n1,0,0,5\n" ∷
+    lists "9;\n5\n" "0,0,0,1,1\n1,0,0,5\n" ∷
+    lists "9;\n\n5\n\n" "0,0,0,1,1\n1,9,0\n2,0,0,5\n3,9,0\n" ∷
+    lists "\n" "0,11,0\n" ∷
+    lists "\n9;\n5\n" "0,11,0\n" ∷
+    lists "9\n5\n" "0,11,0\n" ∷
+    lists "9;Z9Z;\n5555\n5\n" "0,4,2\n" ∷
+    lists "9;\n55\n5\n" "0,0,0,1,1\n1,9,0\n2,0,0,5\n" ∷
+    lists "9;\r\n5\r\n" "0,11,0\n" ∷
+    lists "9;\n5\r\n \n" "0,0,0,1,1\n1,9,0\n2,10,1\n" ∷
+    lists "S9V9;99;\n-1207\n+0007\n-0007\n+12x7\n" "0,0,0,2,5\n1,0,0,-12,7\n2,0,0,0,7\n3,10,1\n4,10,2\n" ∷ []
