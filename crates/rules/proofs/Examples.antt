@@ -56,13 +56,21 @@ pub texts-hold : All Lines.texts
 unfolding definitions
 texts-hold = all-hold Lines.texts refl
 
-pub shapes-hold : All Lines.shapes
+pub suppressions-hold : All Lines.suppressions
 unfolding definitions
-shapes-hold = all-hold Lines.shapes refl
+suppressions-hold = all-hold Lines.suppressions refl
+
+pub placements-hold : All Lines.placements
+unfolding definitions
+placements-hold = all-hold Lines.placements refl
 
 pub limits-hold : All Lines.limits
 unfolding definitions
 limits-hold = all-hold Lines.limits refl
+
+pub values-hold : All Lines.values
+unfolding definitions
+values-hold = all-hold Lines.values refl
 
 pub layouts-hold : All Lines.layouts
 unfolding definitions
@@ -75,6 +83,10 @@ memory-hold = all-hold Lines.memory refl
 pub orders-hold : All Lines.orders
 unfolding definitions
 orders-hold = all-hold Lines.orders refl
+
+pub plan-orders-hold : All Lines.planOrders
+unfolding definitions
+plan-orders-hold = all-hold Lines.planOrders refl
 
 pub plans-hold : All Lines.plans
 unfolding definitions

@@ -1,7 +1,7 @@
 -- When a line of the sheet holds: where what the definitions make of it, computed, is what it says. Reading goes by the candidate, which
 -- reading's exactness makes the answer. Assumes nothing.
 use mathlib.Core.Path.{_≡_, refl, sym, ap}
-use mathlib.Core.Bool.{Bool, true, false, cond, _&&_}
+use mathlib.Core.Bool.{Bool, true, false, _&&_}
 use mathlib.Core.List.{List, [], _∷_, map}
 use mathlib.Core.Option.{Option}
 use Prim.Native.Nat.{ℕ}
@@ -18,7 +18,7 @@ use Rattle.rules.specs.Shape.{digitsFit, drifting, driftsBeforeV, formSh
 use Rattle.rules.specs.Digits.{digitsOf, valueOf}
 use Rattle.rules.specs.Edit.{aligned, allSuppressible, cell, cellAt, digitAt, digitChar, driftsTo, edited, field, fill, firstShown, hasSign, inRange, inStretch, isBlank, isMinus, isShown, mark, opening, printed, start, suppressed, tooBig}
 use Rattle.rules.specs.Layout.{HasPlan, accepted, closes, countFits, cut, forms, headers, planOf, positions, recordLength}
-use Rattle.rules.specs.Answers.{ReadIs, RecordReads, answer, answerOver, as-layout, checkAnswer, compileAnswer, compileMemory, compileNumber, editAnswer, editMemory, editNumber, editVerdicts, lentAfter, no-plan, numberOver, readAnswer, readBefore, recordAnswer, recordOf, rowAfter, rowAnswer, rowNumber, said, unread}
+use Rattle.rules.specs.Answers.{ReadIs, RecordReads, answer, answerOver, as-layout, checkAnswer, compileAnswer, compileMemory, compileNumber, editAnswer, editMemory, editNumber, editVerdicts, lentAfter, no-plan, numberOver, readAnswer, readBefore, recordAnswer, recordOf, rowAfter, rowAnswer, rowNumber, said}
 use Rattle.rules.specs.Collector.{bitsOf, bytesOf, intIn, intOf, leBytes, leValue, packed, readRunNumber, rowBytes, rowIn}
 use Rattle.rules.specs.Lister.{AllRead, Lists, ListsLines, answerLine, decimal, layoutLine, line, linesFrom, listed, mostInput, recordLine, recordLines, trimmed}
 use Rattle.rules.specs.Good.{bears, fitsRoom, good, inOrder, marksLast, oneDollar, plainNumber, wellMade}
@@ -28,7 +28,7 @@ use Rattle.rules.specs.Sheet.{All, Holds, Line, edits, refuses, editsInt
 use Rattle.rules.specs.declared.Answer.{Answer}
 use Rattle.rules.proofs.Exact.{reads-of}
 use Rattle.rules.proofs.Forms.{accepted-good, good-parts}
-use Rattle.rules.proofs.Logic.{both, by-test}
+use Rattle.rules.proofs.Logic.{both}
 use Rattle.rules.proofs.Outcomes.{all-read, read-is}
 use Rattle.rules.proofs.Plans.{forms-good, no-layout}
 
@@ -139,7 +139,7 @@ says (stores row b) = record { answered = alone 0; bytes = b; row = row; passed 
 says (readsRun p f run r after) = outcome (alone r) after
 says (lists input out) = tested (alone 0) (text out) true
 
--- to compute a line is to open every definition
+-- A line is computed by opening every definition on the way: a law that says `unfolding definitions` opens all of these.
 unfoldable pub definitions : ℕ
 unfolding has times place any count same first each upTo firstOf badField textFits next copies expandFrom isNine isSuppressible isDigit isFirstDrifting opens isStatic isSign drifts driftsSign number numbers suppresses kindUpTo rolesFrom formOf meaning oneV drifting oneDrifts suppressionApart ninesLast suppressedPlaces oneSign staticsPlaced driftsBeforeV formShape shape whole places digitsFit verdict digitsOf valueOf inRange aligned isMinus hasSign tooBig fill mark digitChar printed suppressed cell opening allSuppressible digitAt isShown firstShown start inStretch driftsTo cellAt isBlank field edited checkAnswer editNumber editAnswer editMemory readAnswer digitIn shownIn worthOf minusFits readOf cut closes countFits accepted forms recordLength headers positions planOf numberOver answerOver compileNumber compileAnswer compileMemory readBefore recordAnswer rowAfter editVerdicts recordOf rowNumber rowAnswer readAll linesFrom trimmed decimal line answerLine layoutLine recordLine recordLines listed packed bitsOf intOf leBytes leValue bytesOf intIn rowBytes rowIn readRunNumber roomOf pictureOf plainNumber inOrder bears oneDollar marksLast fitsRoom wellMade good formsFrom formsIn allGood isPlan allFit listingOf layoutFits found says
 definitions = 0

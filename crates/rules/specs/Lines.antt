@@ -191,9 +191,9 @@ texts =
     keeps "(2)9V9CR" (text "99V9CR" ++ replicate 58 0) 6 ∷
     keeps "9Z" (replicate 64 0) 0 ∷ []
 
--- Each rule of shape: what breaks it, and beside it a neighbour that doesn't.
-abbrev pub shapes : List Line
-shapes =
+-- Each rule of shape: what breaks it, and beside it a neighbour that doesn't. Those on V and on what suppresses:
+abbrev pub suppressions : List Line
+suppressions =
     -- one V
     forbids "9V9V" 4 ∷
     forbids "VV9" 4 ∷
@@ -223,6 +223,16 @@ shapes =
     accepts "ZVZ" 2 ∷
     accepts "$$V$" 3 ∷
     accepts "ZV9" 2 ∷
+    -- V not before the first drifting symbol
+    forbids "V$$" 4 ∷
+    forbids "V,--9" 4 ∷
+    accepts "$V$" 2 ∷
+    accepts "V$9" 2 ∷
+    accepts "9-V" 2 ∷ []
+
+-- Those on signs and static symbols:
+abbrev pub placements : List Line
+placements =
     -- one sign
     forbids "S+9" 4 ∷
     forbids "S9-" 4 ∷
@@ -251,19 +261,13 @@ shapes =
     forbids "$,S" 5 ∷
     forbids "S+" 4 ∷
     forbids "+DB" 4 ∷
-    forbids "VV" 4 ∷
-    -- V not before the first drifting symbol
-    forbids "V$$" 4 ∷
-    forbids "V,--9" 4 ∷
-    accepts "$V$" 2 ∷
-    accepts "V$9" 2 ∷
-    accepts "9-V" 2 ∷ []
+    forbids "VV" 4 ∷ []
 
 -- The longest picture text: 128 bytes, of 28 positions.
 abbrev pub longest : String
 longest = joined (repeated 25 "(01)B") "999"
 
--- Each limit of a picture, a value and a layout, on both sides.
+-- Each limit of a picture, on both sides.
 abbrev pub limits : List Line
 limits =
     -- bytes of a text
@@ -296,8 +300,12 @@ limits =
     accepts "(16)$" 16 ∷
     forbids "(17)$" 5 ∷
     accepts "(8)9V(7)9" 15 ∷
-    forbids "(8)9V(8)9" 5 ∷
-    -- the scale of a value
+    forbids "(8)9V(8)9" 5 ∷ []
+
+-- Each limit of a value, on both sides.
+abbrev pub values : List Line
+values =
+    -- its scale
     edits "V(15)9" (pos 123) 15 "000000000000123" ∷
     refuses "V(15)9" (pos 123) 16 6 ∷
     refuses "9" (pos 0) 16 6 ∷
@@ -305,10 +313,7 @@ limits =
     edits "S(15)9" (pos 999999999999999) 0 "+999999999999999" ∷
     refuses "S(15)9" (pos 1000000000000000) 0 6 ∷
     edits "S(15)9" (minus 999999999999999) 0 "-999999999999999" ∷
-    refuses "S(15)9" (minus 1000000000000000) 0 6 ∷
-    -- what a picture holds
-    edits "99" (pos 99) 0 "99" ∷
-    refuses "99" (pos 100) 0 8 ∷ []
+    refuses "S(15)9" (minus 1000000000000000) 0 6 ∷ []
 
 -- Each limit of a layout, on both sides.
 abbrev pub layouts : List Line
@@ -339,7 +344,7 @@ memory =
     planEdits "9;99V9;S9;" (pos 9 ∷ pos 7 ∷ minus 9 ∷ []) "########" (success 6 (pos 0)) "9007-9##" ∷
     planEdits "9;99V9;S9;" (pos 9 ∷ pos 7 ∷ minus 10 ∷ []) "########" (refusal 8 3) "########" ∷ []
 
--- The order of refusals: of each two that follow one another both apply, and the first is given.
+-- The order of refusals: of each two that follow one another both apply, and the first is given. In calls on one picture:
 abbrev pub orders : List Line
 orders =
     -- a picture: 1, 2, 3, 4, 5
@@ -360,7 +365,11 @@ orders =
     rejects "(16)9" "" 5 ∷
     rejects "9" "" 9 ∷
     rejects "9" "xx" 9 ∷
-    rejects "9" "x" 10 ∷
+    rejects "9" "x" 10 ∷ []
+
+-- In calls on layouts and plans, behind 12:
+abbrev pub planOrders : List Line
+planOrders =
     -- compiling: 11, the first bad picture, 7
     spoils "9Z;9" 11 0 ∷
     spoils "9;Z;9Z;Q;" 4 3 ∷

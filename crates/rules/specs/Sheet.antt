@@ -1,7 +1,7 @@
--- 01, "Sheet of examples": its lines as data, with what it means that a line holds. A line says what goes in and what comes out in plain
--- numbers and texts, by no name of a definition, so that a definition that says something else fails at a line. proofs/Examples.antt proves
--- that all of them hold: those marked P as one list with one statement, and the others. The lines of specs/Lines.antt are of the same kind.
--- Assumes nothing.
+-- The sheet of examples: its lines as data, with what it means that a line holds. A line says what goes in and what comes out in plain numbers
+-- and texts, by no name of a definition, so that a definition that says something else fails at a line. proofs/Examples.antt proves that all
+-- of them hold: those marked P as one list with one statement, and the others. The lines of specs/Lines.antt are of the same kind. Assumes
+-- nothing.
 use Prim.Native.Nat.{ℕ, zero, suc}
 use Prim.Native.String.{String, [] as none, _∷_ as _then_}
 use mathlib.Core.Path.{_≡_}
@@ -37,9 +37,9 @@ abbrev pub success : ℕ → ℤ → Answer
 success length m = record { number = 0; field = 0; length = length; value = m }
 
 pub data Line : Type 0 where
-  -- the picture edits M at scale q to the field
+  -- the picture edits M at scale q to the field, in an output of just its length
   edits : String → ℤ → ℕ → String → Line
-  -- the picture refuses M at scale q with this number
+  -- the picture refuses M at scale q with this number, and leaves an output of 64 places
   refuses : String → ℤ → ℕ → ℕ → Line
   -- editing into an output with this content gives this answer, and the output then holds that
   editsInto : String → ℤ → ℕ → String → Answer → String → Line
