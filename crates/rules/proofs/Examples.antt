@@ -1,5 +1,5 @@
--- The sheet and the lines beside it come out of the definitions: each list by computing. And the lister's limit, for every input. Assumes
--- nothing.
+-- The sheet and the lines beside it come out of the definitions: each list by computing. Where a list fails, `found l ≡ says l` of its lines
+-- one by one shows which. And the lister's limit, for every input. Assumes nothing.
 use mathlib.Core.Path.{_≡_, refl}
 use mathlib.Core.List.{List, []}
 use Prim.Native.Nat.{ℕ, _≤_}

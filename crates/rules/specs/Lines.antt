@@ -166,11 +166,18 @@ readings =
     rejects "9B9" "1B2" 10 ∷
     rejects "$$9" "$ 5" 10 ∷ []
 
--- From text to symbols: factors, the marks as the last two bytes, and what is kept of a picture, in a room of 64.
+-- From text to symbols: factors, the marks as the last two bytes, no other letter, and what is kept of a picture, in a room of 64.
 abbrev pub texts : List Line
 texts =
     accepts "(2)9(1)B9" 4 ∷
     accepts "(02)9" 2 ∷
+    accepts "(3)Z" 3 ∷
+    accepts "(3)*" 3 ∷
+    accepts "(3)S" 3 ∷
+    accepts "(3)+" 3 ∷
+    accepts "(3)-" 3 ∷
+    accepts "(3)$" 3 ∷
+    accepts "(2),(2).(2)/(2)B9" 9 ∷
     accepts "9(2)B" 3 ∷
     accepts "9BDB" 4 ∷
     edits "9BDB" (minus 1) 0 "1 DB" ∷
@@ -188,6 +195,15 @@ texts =
     forbids "9D" 2 ∷
     forbids "z" 2 ∷
     forbids " 9" 2 ∷
+    forbids "9T" 2 ∷
+    forbids "9I" 2 ∷
+    forbids "9Y" 2 ∷
+    forbids "9E9" 2 ∷
+    forbids "9K9" 2 ∷
+    forbids "9F" 2 ∷
+    forbids "A" 2 ∷
+    forbids "X" 2 ∷
+    forbids "9;" 2 ∷
     keeps "(2)9V9CR" (text "99V9CR" ++ replicate 58 0) 6 ∷
     keeps "9Z" (replicate 64 0) 0 ∷ []
 
