@@ -235,13 +235,15 @@ suppressions =
     -- one behind V only where all are suppressible
     forbids "9VZ" 4 ∷
     forbids "ZVZ9" 4 ∷
+    forbids "V**9" 4 ∷
     forbids "$$9V$" 4 ∷
     accepts "ZVZ" 2 ∷
     accepts "$$V$" 3 ∷
     accepts "ZV9" 2 ∷
     -- V not before the first drifting symbol
     forbids "V$$" 4 ∷
-    forbids "V,--9" 4 ∷
+    forbids "V,--" 4 ∷
+    forbids "V++9" 4 ∷
     accepts "$V$" 2 ∷
     accepts "V$9" 2 ∷
     accepts "9-V" 2 ∷ []
