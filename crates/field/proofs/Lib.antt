@@ -1,4 +1,3 @@
-pub mod Columns
 pub mod Loops
 pub mod Whole
 pub mod Calls

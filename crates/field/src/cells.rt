@@ -1,11 +1,11 @@
 // The characters of a field, position by position, written into a room.
 use super::Field;
-use super::marks::digits_at;
-use super::marks::fill_of;
-use super::marks::is_digit;
-use super::marks::mark_of;
 use super::stretch::Stretch;
 use super::stretch::digit_at;
+use roles::digits_at;
+use roles::is_digit;
+use roles::marks::fill_of;
+use roles::marks::mark_of;
 ghost use mathlib.Core.Path.{_≡_};
 ghost use Prim.Native.Nat.{_≤_, _<_};
 ghost use lib.Dec.{eqb};

@@ -1,20 +1,17 @@
 // One field of one form: what a value's characters are. A form comes as its parts, the roles of
 // its positions, the number of positions before V, and the kind of suppression. Each call answers for every input.
 mod cells; // cells.rt: the characters of a field, written
-pub mod marks; // marks.rt: roles and the characters that they show
 mod stretch; // stretch.rt: which positions are suppressed
 mod survey; // survey.rt: one pass over the roles, for measuring and editing
 
 use cells::put;
 use decimal::digits::digits;
-use marks::sign_drifts;
+use roles::sign_drifts;
 use stretch::is_blank;
 use stretch::stretch_of;
 use survey::survey_of;
 ghost use mathlib.Core.Path.{_≡_};
-ghost use mathlib.Core.Bool.{_||_};
 ghost use mathlib.Core.List.{[]};
-ghost use Rattle.rules.specs.Roles.{driftsSign};
 ghost use Rattle.rules.specs.Form.{formed};
 ghost use Rattle.field.specs.Results.{measureOf, roomOf, fieldRoom};
 
@@ -36,16 +33,6 @@ pub struct Field {
     pub count: usize,
 }
 
-// A sign stands at a position, or it drifts.
-fn has_sign(stands: bool, kind: u8) -> bool
-    ensures { λ r. ⌜ r ≡ (stands || driftsSign kind) ⌝ }
-{
-    if stands {
-        return true;
-    }
-    sign_drifts(kind)
-}
-
 fn empty() -> Field
     ensures { λ r. ⌜ r ≡ roomOf [] ⌝ }
 {
@@ -62,7 +49,7 @@ pub fn measure(roles: &[u8], vee: usize, kind: u8) -> Measured
     Measured {
         whole: seen.whole,
         places: seen.places,
-        signed: has_sign(seen.signed, kind),
+        signed: seen.signed | sign_drifts(kind),
     }
 }
 

@@ -1,8 +1,8 @@
 // Which positions of a field are suppressed, and where a drifting symbol's character stands.
-use super::marks::does_drift;
-use super::marks::does_open;
-use super::marks::is_digit;
-use super::marks::is_nine;
+use roles::does_drift;
+use roles::does_open;
+use roles::is_digit;
+use roles::is_nine;
 ghost use mathlib.Core.Path.{_≡_};
 ghost use mathlib.Core.Bool.{cond, not, _&&_};
 ghost use Prim.Native.Nat.{ℕ, _-_};

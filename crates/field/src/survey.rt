@@ -1,8 +1,8 @@
 // One pass over the roles: the digits on both sides of V, and whether a sign and a nine are among them. All that measuring
 // and editing ask of the roles before they come to a value.
-use super::marks::is_digit;
-use super::marks::is_nine;
-use super::marks::is_sign;
+use roles::is_digit;
+use roles::is_nine;
+use roles::is_sign;
 ghost use mathlib.Core.Path.{_≡_};
 ghost use mathlib.Core.Bool.{_&&_, _||_};
 ghost use Prim.Native.Nat.{_≤_};

@@ -17,6 +17,7 @@ use lib.Seq.{take-length, take-suc}
 use Rattle.rules.specs.Words.{any, count, same}
 use Rattle.rules.specs.Search.{upTo}
 use Rattle.rules.specs.Digits.{valueOf}
+use Rattle.rules.specs.Text.{isDecimal}
 use Rattle.rules.specs.Roles.{drifts, isDigit, isFirstDrifting, isNine, isSuppressible, opens}
 use Rattle.rules.specs.Form.{Form, roleAt, size}
 use Rattle.rules.specs.Shape.{digitCount, mostDigits}
@@ -30,7 +31,7 @@ use Rattle.rules.proofs.Logic.{both, by-test, eqb-swap, neither}
 use Rattle.rules.proofs.Search.{first-least, length-upTo}
 use Rattle.rules.proofs.Stretch.{early, stretch-from, stretch-in, stretch-to}
 use Rattle.fieldread.specs.declared.zones.Said.{Said}
-use Rattle.fieldread.specs.Zones.{Ahead, Filled, Hides, Led, Stopped, digitStep, fineAt, hasDrift, isFigure, isFine, markStep, markedAt, saidAt, saidIn, sidesOf, soFar, startIn, valueTo, within}
+use Rattle.fieldread.specs.Zones.{Ahead, Filled, Hides, Led, Stopped, digitStep, fineAt, hasDrift, isFine, markStep, markedAt, saidAt, saidIn, sidesOf, soFar, startIn, valueTo, within}
 use Rattle.fieldread.proofs.Cases.{reads-other, reads-zero}
 use Rattle.field.proofs.Loops.{count-part, counted, counted-digit, counted-le, counted-nine, counted-other, counted-zero, opening-here, opening-more, shown-more, shown-same, start-counted}
 use Rattle.field.proofs.Whole.{worth-digits}
@@ -91,8 +92,8 @@ same-places : (g : ℕ → ℕ) (f : List ℕ) (n : ℕ) → length f ≡ n → 
 same-places g f n l = let t : take n f ≡ f = rw (← l) (take-length f) in rw t at (same-part g f n (omega arith))
 
 -- Characters and roles.
-figure-is : (c : ℕ) → eqb (48 + digitIn c) c ≡ isFigure c
-unfolding isFigure digitIn
+figure-is : (c : ℕ) → eqb (48 + digitIn c) c ≡ isDecimal c
+unfolding digitIn
 figure-is c =
     by-test (leb 48 c && leb c 57)
     (λ e. let l = leb-true 48 c (both (leb 48 c) _ e .0) in rw e (eq-eqb (48 + (c - 48)) c (omega arith)))
@@ -288,7 +289,7 @@ module _ (φ : Form) (f : List ℕ) where
   pub fine-first : (k : ℕ) → startIn φ f ≡ k → soFar (fineAt φ f) k ≡ true
   fine-first k s = so-true _ k (λ j l. fine-early j (omega arith))
 
-  pub fine-digit : (k : ℕ) → isFigure (getD f k 0) ≡ true → soFar (fineAt φ f) k ≡ true → soFar (fineAt φ f) (k + 1) ≡ true
+  pub fine-digit : (k : ℕ) → isDecimal (getD f k 0) ≡ true → soFar (fineAt φ f) k ≡ true → soFar (fineAt φ f) (k + 1) ≡ true
   unfolding soFar fineAt
   fine-digit k c e = rw (add-one k, e, c, or-true (within φ f k || not (isDigit (roleAt φ k))))
 
@@ -296,7 +297,7 @@ module _ (φ : Form) (f : List ℕ) where
   unfolding soFar fineAt
   fine-mark k d e = rw (add-one k, e, d, or-true (within φ f k))
 
-  pub said-none : (k : ℕ) → startIn φ f ≤ k → k < size φ → isDigit (roleAt φ k) ≡ true → isFigure (getD f k 0) ≡ false → record { value = 0; plus = false; minus = false } ≡ saidIn φ f
+  pub said-none : (k : ℕ) → startIn φ f ≤ k → k < size φ → isDigit (roleAt φ k) ≡ true → isDecimal (getD f k 0) ≡ false → record { value = 0; plus = false; minus = false } ≡ saidIn φ f
   unfolding saidIn fineAt
   said-none k s h d c = rw (so-false (fineAt φ f) (size φ) k h (rw (out-late k s, d, c)))
 
@@ -347,7 +348,7 @@ module _ (φ : Form) (f : List ℕ) where
         (λ d. rw (cell-drift i d, i, d) (eqb-swap (mark (φ .kind) negative) (getD f k 0)))
         (λ d. rw (cell-fill i d, i, d) (eq-eqb _ _ (sym (g i d)))))
         (λ i. by-test (isDigit (roleAt φ k))
-        (λ e. rw (cell-digit i h e, i, e, figure-is (getD f k 0), and-true (isFigure (getD f k 0)), and-true (isFigure (getD f k 0))))
+        (λ e. rw (cell-digit i h e, i, e, figure-is (getD f k 0), and-true (isDecimal (getD f k 0)), and-true (isDecimal (getD f k 0))))
         (λ e. rw (cell-mark i e, i, e) (eqb-swap (mark (roleAt φ k) negative) (getD f k 0) ∙ sym (and-true _))))
 
   -- All places together.
@@ -463,7 +464,7 @@ module _ (φ : Form) (f : List ℕ) where
       by-test (within φ f k)
       (λ i. rw i)
       (λ i. by-test (isDigit (roleAt φ k))
-      (λ d. rw (i, d, cell-digit negative k i h d, figure-is (getD f k 0)) (sym (and-self (isFigure (getD f k 0)))))
+      (λ d. rw (i, d, cell-digit negative k i h d, figure-is (getD f k 0)) (sym (and-self (isDecimal (getD f k 0)))))
       (λ d. rw (i, d)))
 
   cells-none : length f ≡ size φ → isFine φ f ≡ false → (negative : Bool) → same (upTo (size φ) (λ k. cellAt φ (shown φ f) negative k)) f ≡ false

@@ -5,12 +5,12 @@ use mathlib.Core.Bool.{Bool, true, false, cond, not, _&&_, _||_}
 use mathlib.Core.List.{List}
 use mathlib.Core.Option.{none}
 use Prim.Native.Nat.{ℕ, zero, suc, _+_, _-_, _*_, _<_, _≤_}
-use Prim.Native.Char.{code}
-use lib.Dec.{leb, eqb}
+use lib.Dec.{eqb}
 use lib.ListN.{length, getD, take}
 use Rattle.rules.specs.Words.{same}
 use Rattle.rules.specs.Search.{upTo}
 use Rattle.rules.specs.Digits.{valueOf}
+use Rattle.rules.specs.Text.{isDecimal}
 use Rattle.rules.specs.Roles.{drifts, isDigit}
 use Rattle.rules.specs.Form.{Form, roleAt, size}
 use Rattle.rules.specs.Shape.{digitCount, mostDigits}
@@ -23,10 +23,6 @@ use Rattle.fieldread.specs.declared.zones.Hidden.{Hidden}
 unfoldable pub soFar : (ℕ → Bool) → ℕ → Bool
 soFar p zero = true
 soFar p (suc k) = soFar p k && p k
-
--- the character is a digit
-unfoldable pub isFigure : ℕ → Bool
-isFigure c = leb (code "0") c && leb c (code "9")
 
 -- a digit more that prints, and a mark more
 unfoldable pub digitStep : Said → ℕ → Said
@@ -52,7 +48,7 @@ module _ (φ : Form) (f : List ℕ) where
 
   -- what is asked of a position that prints: whatever the sign, that a digit shows one; and by the sign, that a mark shows its own
   unfoldable pub fineAt : ℕ → Bool
-  fineAt k = within k || not (isDigit (roleAt φ k)) || isFigure (getD f k 0)
+  fineAt k = within k || not (isDigit (roleAt φ k)) || isDecimal (getD f k 0)
 
   unfoldable pub markedAt : Bool → ℕ → Bool
   markedAt negative k = within k || isDigit (roleAt φ k) || eqb (getD f k 0) (mark (roleAt φ k) negative)

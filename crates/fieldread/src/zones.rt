@@ -1,20 +1,22 @@
 // A field in one pass, from left to right. Up to the first suppressible digit or drifting symbol the positions print; from there the
 // fill stands up to where printing starts, a drifting symbol's character last; the rest prints. The value is added up on the way, and
 // marks are compared for plus and for minus side by side.
-use field::marks::digit_in;
-use field::marks::does_drift;
-use field::marks::does_open;
-use field::marks::fill_of;
-use field::marks::is_digit;
-use field::marks::is_nine;
-use field::marks::mark_of;
+use roles::before_vee;
+use roles::digit_in;
+use roles::does_drift;
+use roles::does_open;
+use roles::is_decimal;
+use roles::is_digit;
+use roles::is_nine;
+use roles::marks::fill_of;
+use roles::marks::mark_of;
 ghost use mathlib.Core.Path.{_≡_};
 ghost use mathlib.Core.Bool.{true};
-ghost use Prim.Native.Nat.{_≤_, _<_, _^_, min};
+ghost use Prim.Native.Nat.{_≤_, _<_, _^_};
 ghost use lib.Dec.{leb};
 ghost use Rattle.rules.specs.Form.{formed};
 ghost use Rattle.rules.specs.Shape.{mostDigits};
-ghost use Rattle.fieldread.specs.Zones.{isFigure, digitStep, markStep, saidAt, saidIn, startIn, Led, Filled, Hides, Unfilled, Asked, sidesOf};
+ghost use Rattle.fieldread.specs.Zones.{digitStep, markStep, saidAt, saidIn, startIn, Led, Filled, Hides, Unfilled, Asked, sidesOf};
 
 // What the positions passed say: the value of their digits, and whether the marks are those of plus and of minus. Positions of the
 // stretch have no part in it.
@@ -36,21 +38,6 @@ pub(crate) struct Hidden {
     pub ok: bool,
     pub to: usize,
     pub last: u8,
-}
-
-fn is_figure(c: u8) -> bool
-    ensures { λ r. ⌜ r ≡ isFigure c ⌝ }
-{
-    (b'0' <= c) & (c <= b'9')
-}
-
-fn least(a: usize, b: usize) -> usize
-    ensures { λ r. ⌜ r ≡ min a b ⌝ }
-{
-    if a < b {
-        return a;
-    }
-    b
 }
 
 // A digit more that prints, and a mark more.
@@ -81,7 +68,7 @@ pub(crate) fn lead(roles: &[u8], vee: usize, kind: u8, field: &[u8]) -> Passed
     requires { ⌜ Asked (formed (now roles) vee kind) (now field) ⌝ }
     ensures { λ r. ⌜ (r .said ≡ saidAt (formed (now (roles .entry)) vee kind) (now (field .entry)) (r .at)) × Led (formed (now (roles .entry)) vee kind) (now (field .entry)) (r .at) ⌝ }
 {
-    let end = least(vee, roles.len());
+    let end = before_vee(vee, roles.len());
     let mut s = Said {
         value: 0,
         plus: true,
@@ -104,7 +91,7 @@ fn filled(roles: &[u8], vee: usize, kind: u8, field: &[u8], from: usize) -> usiz
     requires { ⌜ Asked (formed (now roles) vee kind) (now field) × Led (formed (now roles) vee kind) (now field) from ⌝ }
     ensures { λ r. ⌜ Filled (formed (now (roles .entry)) vee kind) (now (field .entry)) from r × Unfilled (formed (now (roles .entry)) vee kind) (now (field .entry)) r ⌝ }
 {
-    let end = least(vee, roles.len());
+    let end = before_vee(vee, roles.len());
     let fill = fill_of(kind);
     let mut k = from;
     while k < end {
@@ -124,7 +111,7 @@ fn does_start(roles: &[u8], vee: usize, kind: u8, field: &[u8], k: usize) -> boo
     requires { ⌜ Asked (formed (now roles) vee kind) (now field) × (k ≤ startIn (formed (now roles) vee kind) (now field)) ⌝ }
     ensures { λ r. ⌜ r ≡ leb (startIn (formed (now (roles .entry)) vee kind) (now (field .entry))) k ⌝ }
 {
-    if least(vee, roles.len()) <= k {
+    if before_vee(vee, roles.len()) <= k {
         return true;
     }
     let role = roles[k];
@@ -176,7 +163,7 @@ fn rest(roles: &[u8], vee: usize, kind: u8, field: &[u8], from: usize, said: Sai
         let role = roles[k];
         let c = field[k];
         if is_digit(role) {
-            if !is_figure(c) {
+            if !is_decimal(c) {
                 return Said {
                     value: 0,
                     plus: false,

@@ -2,20 +2,21 @@
 use mathlib.Core.Path.{_≡_, refl, sym, _∙_, ap}
 use mathlib.Core.Bool.{Bool, true, false, and-false}
 use mathlib.Core.List.{List, [], _∷_}
-use Prim.Native.Nat.{ℕ, suc, _+_, _<_, _≤_}
+use Prim.Native.Nat.{ℕ, suc, _+_, _<_, _≤_, min}
 use native.Mathlib.Numerals.{add-one}
 use native.Mathlib.Omega.{arith}
-use borrow.Author.Tests.{eq-eqb, ne-eqb, lt-ltb}
-use lib.Dec.{eqb}
-use lib.ListN.{length, drop, getD, length-take, drop-of-length-le}
-use lib.Seq.{drop-cons, getD-take}
+use borrow.Author.Tests.{eq-eqb, leb-false, leb-true, ne-eqb, lt-ltb}
+use lib.Dec.{eqb, leb}
+use lib.ListN.{length, take, drop, getD, length-take, drop-of-length-le}
+use lib.Seq.{drop-cons, getD-take, take-all}
 use Rattle.rules.specs.declared.Picture.{Picture}
 use Rattle.rules.specs.Words.{times, place}
 use Rattle.rules.specs.Text.{theV, heldIn}
 use Rattle.rules.specs.Form.{ofKind}
+use Rattle.rules.proofs.Logic.{by-test}
 
 module _ (picture : Picture) (i : ℕ) where
-  pub held-at : i < length (heldIn picture) → getD (heldIn picture) i 0 ≡ getD (picture .symbols) i 0
+  held-at : i < length (heldIn picture) → getD (heldIn picture) i 0 ≡ getD (picture .symbols) i 0
   unfolding heldIn
   held-at h =
       let k : i < picture .count = omega (arith, simp length-take at h) in
@@ -26,6 +27,21 @@ module _ (picture : Picture) (i : ℕ) where
 
   pub done : length (heldIn picture) ≤ i → drop i (heldIn picture) ≡ []
   done h = drop-of-length-le (heldIn picture) h
+
+-- the symbols lent as the first n places of the room
+module _ (picture : Picture) (n : ℕ) (e : n ≡ length (heldIn picture)) where
+  pub lent-le : n ≤ length (picture .symbols)
+  unfolding heldIn
+  lent-le = omega (arith, simp length-take at e)
+
+  pub lent : take n (picture .symbols) ≡ heldIn picture
+  unfolding heldIn
+  lent =
+      let l = length (picture .symbols) in
+      let m : n ≡ min (picture .count) l = simp length-take at e in
+      by-test (leb (picture .count) l)
+      (λ t. let h = leb-true (picture .count) l t in let q : n ≡ picture .count = omega arith in rw q)
+      (λ t. let h = leb-false (picture .count) l t in take-all n (picture .symbols) (omega arith) ∙ sym (take-all (picture .count) (picture .symbols) (omega arith)))
 
 -- counting a symbol
 module _ (c : ℕ) (picture : Picture) (i end n all : ℕ) (z : end ≡ length (heldIn picture)) (e : n + times c (drop i (heldIn picture)) ≡ all) where

@@ -8,20 +8,17 @@ use native.Mathlib.Numerals.{add-one}
 use native.Mathlib.Omega.{arith}
 use borrow.Author.Tests.{eqb-true, eq-eqb, ne-eqb}
 use lib.Dec.{eqb, leb}
-use lib.ListN.{length, getD, take, drop, set, replicate, length-append}
-use lib.Seq.{set-append-seam, take-append-seam}
-use Rattle.rules.specs.declared.Picture.{Picture}
+use lib.ListN.{length, getD, take, drop, set, replicate, length-append, drop-of-length-le}
+use lib.Seq.{drop-cons, set-append-seam, take-append-seam}
 use Rattle.rules.specs.Words.{same}
-use Rattle.rules.specs.Text.{theV, isMark, heldIn}
+use Rattle.rules.specs.Text.{theV, isMark}
 use Rattle.rules.specs.Form.{number, numbers, ofKind, rolesFrom}
 use Rattle.rules.proofs.Logic.{by-or, both}
 use Rattle.rules.proofs.Lists.{same-eq}
 use Rattle.rules.proofs.Spelling.{numbers-v, numbers-other}
-use Rattle.rules.proofs.Marks.{not-two, credit, debit, neither}
 use Rattle.form.specs.declared.Roles.{Roles}
 use Rattle.form.specs.declared.Placed.{Placed}
 use Rattle.form.specs.Rooms.{roleOf, rolesRoom, rolesHeld, Whole, placedIn, markNumber}
-use Rattle.form.proofs.Counts.{held-at, more, done}
 
 pub roles-held : (rs : List ℕ) → rolesHeld (rolesRoom rs) ≡ rs
 unfolding rolesHeld rolesRoom
@@ -88,41 +85,38 @@ room-of : (room : Roles) (rs : List ℕ) → Whole room → rolesHeld room ≡ r
 unfolding Whole
 room-of room rs w e = w ∙ ap rolesRoom e
 
--- the turns of the walk over a picture's symbols
-module _ (picture : Picture) (k : ℕ) (first : Bool) (p : Placed) (i : ℕ) (l : i < length (heldIn picture)) (h : Walk (heldIn picture) k first p i) where
-  abbrev s : List ℕ
-  s = heldIn picture
-
+-- the turns of the walk over the symbols s
+module _ (s : List ℕ) (k : ℕ) (first : Bool) (p : Placed) (i : ℕ) (l : i < length s) (h : Walk s k first p i) where
   abbrev b : ℕ
-  b = getD (picture .symbols) i 0
+  b = getD s i 0
+
+  left : drop i s ≡ b ∷ drop (i + 1) s
+  left = rw (add-one, drop-cons s i 0 l)
 
   -- V is no position
-  pub walk-v : isMark (drop i (heldIn picture)) ≡ false → getD (picture .symbols) i 0 ≡ theV → Walk (heldIn picture) k first p (i + 1)
+  pub walk-v : isMark (drop i s) ≡ false → getD s i 0 ≡ theV → Walk s k first p (i + 1)
   walk-v m e =
-      let d = more picture i l in
-      let n : numbers (drop i s) ≡ numbers (drop (i + 1) s) = rw d (numbers-v b (drop (i + 1) s) (rw d at m) (eq-eqb b theV e)) in
+      let n : numbers (drop i s) ≡ numbers (drop (i + 1) s) = rw left (numbers-v b (drop (i + 1) s) (rw left at m) (eq-eqb b theV e)) in
       record { whole = h .whole; few = omega (arith, h .few); rest = rw (← n) (h .rest) }
 
-  pub walk-symbol : isMark (drop i (heldIn picture)) ≡ false → (getD (picture .symbols) i 0 ≡ theV → ⊥) → Walk (heldIn picture) k first (placedIn p k (number (getD (picture .symbols) i 0))) (i + 1)
+  pub walk-symbol : isMark (drop i s) ≡ false → (getD s i 0 ≡ theV → ⊥) → Walk s k first (placedIn p k (number (getD s i 0))) (i + 1)
   walk-symbol m e =
-      let d = more picture i l in
-      let n : numbers (drop i s) ≡ number b ∷ numbers (drop (i + 1) s) = rw d (numbers-other b (drop (i + 1) s) (rw d at m) (ne-eqb b theV e)) in
+      let n : numbers (drop i s) ≡ number b ∷ numbers (drop (i + 1) s) = rw left (numbers-other b (drop (i + 1) s) (rw left at m) (ne-eqb b theV e)) in
       let x = next-number s k first p (number b) (numbers (drop (i + 1) s)) (h .whole) (rw n at (h .rest)) in
       record { whole = x .whole; few = omega (arith, x .count, h .few); rest = x .rest }
 
   -- a mark's two letters end the picture
-  mark-numbers : isMark (drop i (heldIn picture)) ≡ true → numbers (drop i (heldIn picture)) ≡ markNumber (getD (picture .symbols) i 0) ∷ (markNumber (getD (picture .symbols) i 0) + 1) ∷ []
+  mark-numbers : isMark (drop i s) ≡ true → numbers (drop i s) ≡ markNumber (getD s i 0) ∷ (markNumber (getD s i 0) + 1) ∷ []
   unfolding numbers same markNumber
   mark-numbers m =
-      let d = more picture i l in
       let t = drop (i + 1) s in
-      rw d (by-or _ _ (rw d at m)
+      rw left (by-or _ _ (rw left at m)
       (λ q. let w = both _ _ q in rw (eqb-true b (code "C") (w .0), same-eq t (code "R" ∷ []) (w .1)))
       (λ q. let w = both _ _ q in rw (eqb-true b (code "D") (w .0), same-eq t (code "B" ∷ []) (w .1))))
 
-  pub walk-mark : isMark (drop i (heldIn picture)) ≡ true
-      → (Whole (placedIn p k (markNumber (getD (picture .symbols) i 0)) .roles)) × (placedIn p k (markNumber (getD (picture .symbols) i 0)) .roles .count ≡ p .roles .count + 1)
-      × (placedIn (placedIn p k (markNumber (getD (picture .symbols) i 0))) k (markNumber (getD (picture .symbols) i 0) + 1) .roles ≡ rolesRoom (rolesFrom k first (numbers (heldIn picture))))
+  pub walk-mark : isMark (drop i s) ≡ true
+      → (Whole (placedIn p k (markNumber (getD s i 0)) .roles)) × (placedIn p k (markNumber (getD s i 0)) .roles .count ≡ p .roles .count + 1)
+      × (placedIn (placedIn p k (markNumber (getD s i 0))) k (markNumber (getD s i 0) + 1) .roles ≡ rolesRoom (rolesFrom k first (numbers s)))
   walk-mark m =
       let c = markNumber b in
       let x = next-number s k first p c ((c + 1) ∷ []) (h .whole) (rw (mark-numbers m) at (h .rest)) in
@@ -130,32 +124,8 @@ module _ (picture : Picture) (k : ℕ) (first : Bool) (p : Placed) (i : ℕ) (l 
       (x .whole, x .count, room-of (placedIn (placedIn p k c) k (c + 1) .roles) (rolesFrom k first (numbers s)) (y .whole) (unfold rolesFrom in (sym (append-nil _) ∙ y .rest)))
 
 -- at the end
-pub walk-done : (picture : Picture) (k : ℕ) (first : Bool) (p : Placed) (i : ℕ) → length (heldIn picture) ≤ i → Walk (heldIn picture) k first p i → p .roles ≡ rolesRoom (rolesFrom k first (numbers (heldIn picture)))
+pub walk-done : (s : List ℕ) (k : ℕ) (first : Bool) (p : Placed) (i : ℕ) → length s ≤ i → Walk s k first p i → p .roles ≡ rolesRoom (rolesFrom k first (numbers s))
 unfolding numbers rolesFrom
-walk-done picture k first p i l h =
-    let e : rolesHeld (p .roles) ++ [] ≡ rolesFrom k first (numbers (heldIn picture)) = rw (done picture i l) at (h .rest) in
-    room-of (p .roles) (rolesFrom k first (numbers (heldIn picture))) (h .whole) (sym (append-nil _) ∙ e)
-
--- `mark_at` on a picture
-module _ (picture : Picture) (i end : ℕ) (z : end ≡ length (heldIn picture)) where
-  pub other-end : (end - i ≡ 2 → ⊥) → false ≡ isMark (drop i (heldIn picture))
-  other-end n = not-two (heldIn picture) i (λ e. n (rw z e))
-
-  module _ (e : end - i ≡ 2) where
-    two : length (heldIn picture) - i ≡ 2
-    two = rw (← z) e
-
-    first-at : getD (heldIn picture) i 0 ≡ getD (picture .symbols) i 0
-    first-at = held-at picture i (omega (arith, two))
-
-    second-at : getD (heldIn picture) (i + 1) 0 ≡ getD (picture .symbols) (i + 1) 0
-    second-at = held-at picture (i + 1) (omega (arith, two))
-
-    pub as-credit : getD (picture .symbols) i 0 ≡ code "C" → eqb (getD (picture .symbols) (i + 1) 0) (code "R") ≡ isMark (drop i (heldIn picture))
-    as-credit q = rw (← second-at) (credit (heldIn picture) i two (first-at ∙ q))
-
-    pub as-debit : (getD (picture .symbols) i 0 ≡ code "C" → ⊥) → getD (picture .symbols) i 0 ≡ code "D" → eqb (getD (picture .symbols) (i + 1) 0) (code "B") ≡ isMark (drop i (heldIn picture))
-    as-debit n q = rw (← second-at) (debit (heldIn picture) i two (λ x. n (sym first-at ∙ x)) (first-at ∙ q))
-
-    pub as-neither : (getD (picture .symbols) i 0 ≡ code "C" → ⊥) → (getD (picture .symbols) i 0 ≡ code "D" → ⊥) → false ≡ isMark (drop i (heldIn picture))
-    as-neither n m = neither (heldIn picture) i two (λ x. n (sym first-at ∙ x)) (λ x. m (sym first-at ∙ x))
+walk-done s k first p i l h =
+    let e : rolesHeld (p .roles) ++ [] ≡ rolesFrom k first (numbers s) = rw (drop-of-length-le s l) at (h .rest) in
+    room-of (p .roles) (rolesFrom k first (numbers s)) (h .whole) (sym (append-nil _) ∙ e)

@@ -1,12 +1,13 @@
-// From symbols to form: what a picture means. Each function takes the picture by value.
+// From symbols to form: what a picture means. Each public function takes the picture by value.
+use roles::marks::mark_at;
 use rules::Picture;
 ghost use mathlib.Core.Path.{_≡_};
 ghost use mathlib.Core.Bool.{_&&_};
 ghost use Prim.Native.Nat.{_≤_, _<_};
 ghost use lib.Dec.{leb};
-ghost use lib.ListN.{length, drop};
+ghost use lib.ListN.{length};
 ghost use Rattle.rules.specs.Words.{times, place};
-ghost use Rattle.rules.specs.Text.{theV, isMark, heldIn};
+ghost use Rattle.rules.specs.Text.{theV, heldIn};
 ghost use Rattle.rules.specs.Form.{number, numbers, suppresses, ofKind, rolesFrom, formOf};
 ghost use Rattle.rules.specs.Shape.{oneV, oneDrifts, suppressionApart};
 ghost use Rattle.form.specs.Rooms.{Whole, roleOf, rolesRoom, placedIn, suppressionOf, meaningOf, kindLetter, markNumber};
@@ -217,32 +218,11 @@ fn with_number(placed: Placed, kind: u8, number: u8) -> Placed
     }
 }
 
-// The credit or the debit mark stands at i and ends the picture.
-fn mark_at(picture: Picture, i: usize, end: usize) -> bool
-    requires { ⌜ (end ≡ length (heldIn picture)) × (end ≤ 64) × (i < end) ⌝ }
-    ensures { λ r. ⌜ r ≡ isMark (drop i (heldIn picture)) ⌝ }
+// The roles of a picture of this kind with these symbols.
+fn roles_of(symbols: &[u8], kind: u8) -> Roles
+    requires { ⌜ length (now symbols) ≤ 64 ⌝ }
+    ensures { λ r. ⌜ r ≡ rolesRoom (rolesFrom kind (leb kind 2) (numbers (now (symbols .entry)))) ⌝ }
 {
-    if end - i != 2 {
-        return false;
-    }
-    let credit = b"CR";
-    let debit = b"DB";
-    let a = picture.symbols[i];
-    let b = picture.symbols[i + 1];
-    if a == credit[0] {
-        return b == credit[1];
-    }
-    if a == debit[0] {
-        return b == debit[1];
-    }
-    false
-}
-
-// The roles of a picture of this kind.
-fn roles_of(picture: Picture, kind: u8) -> Roles
-    ensures { λ r. ⌜ r ≡ rolesRoom (rolesFrom kind (leb kind 2) (numbers (heldIn picture))) ⌝ }
-{
-    let end = held(picture);
     let mut placed = Placed {
         roles: Roles {
             at: [0; 64],
@@ -251,9 +231,9 @@ fn roles_of(picture: Picture, kind: u8) -> Roles
         met: kind <= 2,
     };
     let mut i = 0;
-    while i < end {
-        let symbol = picture.symbols[i];
-        if mark_at(picture, i, end) {
+    while i < symbols.len() {
+        let symbol = symbols[i];
+        if mark_at(symbols, i) {
             let first = mark_number(symbol);
             let begun = with_number(placed, kind, first);
             let done = with_number(begun, kind, first + 1);
@@ -283,7 +263,9 @@ pub fn form_of(picture: Picture) -> Meaning
 {
     let found = suppression_in(picture);
     let kind = found.kind;
-    let roles = roles_of(picture, kind);
+    let symbols = picture.symbols;
+    let end = held(picture);
+    let roles = roles_of(&symbols[..end], kind);
     let at = roles.at;
     Meaning {
         roles: at,

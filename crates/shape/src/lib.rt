@@ -3,9 +3,10 @@
 // phase holds what the next roles ask of those before, and a sum of weights, which holds what the rules count.
 pub mod tables; // tables.rt: the machine and the weights
 
+use roles::before_vee;
 use tables::next_table;
 use tables::weight_table;
-ghost use Prim.Native.Nat.{_+_, _*_, _<_, _≤_, min};
+ghost use Prim.Native.Nat.{_+_, _*_, _<_, _≤_};
 ghost use mathlib.Core.Path.{_≡_};
 ghost use lib.ListN.{length};
 ghost use Rattle.rules.specs.Form.{formed};
@@ -121,16 +122,6 @@ fn find(kind: u8, at: Walked, end: Walked) -> Judged
         shaped: (UNBROKEN <= at.phase) & ((UNBROKEN <= end.phase) & counts),
         digits: (1 <= digits) & (digits <= MOST_DIGITS),
     }
-}
-
-// The positions before V.
-fn before_vee(vee: usize, n: usize) -> usize
-    ensures { λ r. ⌜ r ≡ min vee n ⌝ }
-{
-    if vee < n {
-        return vee;
-    }
-    n
 }
 
 // What the pass by these tables finds of the form with these roles, V's place and kind. The tables are lent, so that they are

@@ -1,11 +1,13 @@
 // From picture text to symbols: one walk over the bytes, whose state is what has been read of a factor.
+use roles::is_decimal;
+use roles::marks::mark_at;
 use rules::Mode;
 use rules::Picture;
 ghost use mathlib.Core.Path.{_≡_};
 ghost use mathlib.Core.List.{[]};
 ghost use Prim.Native.Nat.{_+_, _*_, _<_, _≤_};
-ghost use lib.ListN.{length, drop, replicate};
-ghost use Rattle.rules.specs.Text.{isSymbol, repeats, isDecimal, worth, allows, isPlain, isMark, next, copies, roomOf};
+ghost use lib.ListN.{length, replicate};
+ghost use Rattle.rules.specs.Text.{isSymbol, repeats, worth, allows, isPlain, next, copies, roomOf};
 ghost use Rattle.text.specs.Expansion.{expandedOf, filled, spelledOf};
 
 // What has been read of a text: the mode in which it ends, and the symbols that it has given. A count above 64 says how
@@ -73,15 +75,6 @@ fn can_repeat(b: u8) -> bool
     is_symbol(b)
 }
 
-fn is_digit(b: u8) -> bool
-    ensures { λ r. ⌜ r ≡ isDecimal b ⌝ }
-{
-    if b < b'0' {
-        return false;
-    }
-    b <= b'9'
-}
-
 fn worth_of(b: u8) -> u8
     ensures { λ r. ⌜ r ≡ worth b ⌝ }
 {
@@ -124,7 +117,7 @@ fn step(mode: Mode, b: u8) -> Mode
             }
         }
         Mode::Opened => {
-            if is_digit(b) {
+            if is_decimal(b) {
                 return Mode::OneDigit(worth_of(b));
             }
         }
@@ -132,7 +125,7 @@ fn step(mode: Mode, b: u8) -> Mode
             if b == b')' {
                 return Mode::Closed(n as usize);
             }
-            if is_digit(b) {
+            if is_decimal(b) {
                 return Mode::TwoDigits(joined(n, b));
             }
         }
@@ -186,27 +179,6 @@ fn is_plain(mode: Mode) -> bool
         Mode::Closed(_) => false,
         Mode::Spoilt => false,
     }
-}
-
-// The credit or the debit mark stands at i and ends the text.
-fn mark_at(text: &[u8], i: usize) -> bool
-    requires { ⌜ i < length (now text) ⌝ }
-    ensures { λ r. ⌜ r ≡ isMark (drop i (now (text .entry))) ⌝ }
-{
-    if text.len() - i != 2 {
-        return false;
-    }
-    let credit = b"CR";
-    let debit = b"DB";
-    let a = text[i];
-    let b = text[i + 1];
-    if a == credit[0] {
-        return b == credit[1];
-    }
-    if a == debit[0] {
-        return b == debit[1];
-    }
-    false
 }
 
 // n copies of b behind what the room holds; what falls outside is counted and dropped.

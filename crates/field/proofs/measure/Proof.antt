@@ -9,7 +9,7 @@ use Rattle.field.proofs.measure.Tie as tie
 
 returns : tie.Need-returns
 unfolding measureOf whole places hasSign surveyOf
-returns c = rw (c .has-sign .ensures, c .before .survey-of .ensures)
+returns c = rw (c .before .sign-drifts .ensures, c .before .before .survey-of .ensures)
 
 pub measure-spec : {M : Type 1} → statement M
 measure-spec = tie.close (tie.spec (λ c κs. search needs) (λ c κs. search needs) returns)

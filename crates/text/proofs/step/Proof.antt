@@ -16,7 +16,7 @@ returns-2 c = rw (c .before .before .before .enum-told .given .1, ne-eqb _ 40 (c
 
 returns-3 : tie.Need-returns-3
 unfolding next
-returns-3 c = rw (c .before .before .before .enum-told2 .given .1, sym (c .before .before .is-digit .ensures) ∙ c .before .if3 .taken, c .worth-of .ensures)
+returns-3 c = rw (c .before .before .before .enum-told2 .given .1, sym (c .before .before .is-decimal .ensures) ∙ c .before .if3 .taken, c .worth-of .ensures)
 
 returns-4 : tie.Need-returns-4
 unfolding next
@@ -24,7 +24,7 @@ returns-4 c = rw (c .before .before .mode .given .1, eq-eqb _ 41 (c .if4 .taken)
 
 returns-5 : tie.Need-returns-5
 unfolding next
-returns-5 c = rw (c .before .before .before .before .before .mode .given .1, ne-eqb _ 41 (c .before .before .before .if4 .left), sym (c .before .before .is-digit2 .ensures) ∙ c .before .if5 .taken, c .joined .ensures)
+returns-5 c = rw (c .before .before .before .before .before .mode .given .1, ne-eqb _ 41 (c .before .before .before .if4 .left), sym (c .before .before .is-decimal2 .ensures) ∙ c .before .if5 .taken, c .joined .ensures)
 
 returns-6 : tie.Need-returns-6
 unfolding next
@@ -40,11 +40,11 @@ returns-8 c = rw (c .before .before .before .enum-told .given .1, ne-eqb _ 40 (c
 
 returns-9 : tie.Need-returns-9
 unfolding next
-returns-9 c = rw (c .before .before .enum-told2 .given .1, sym (c .before .is-digit .ensures) ∙ c .if3 .left)
+returns-9 c = rw (c .before .before .enum-told2 .given .1, sym (c .before .is-decimal .ensures) ∙ c .if3 .left)
 
 returns-10 : tie.Need-returns-10
 unfolding next
-returns-10 c = rw (c .before .before .before .before .mode .given .1, ne-eqb _ 41 (c .before .before .if4 .left), sym (c .before .is-digit2 .ensures) ∙ c .if5 .left)
+returns-10 c = rw (c .before .before .before .before .mode .given .1, ne-eqb _ 41 (c .before .before .if4 .left), sym (c .before .is-decimal2 .ensures) ∙ c .if5 .left)
 
 returns-11 : tie.Need-returns-11
 unfolding next

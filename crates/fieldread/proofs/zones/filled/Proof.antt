@@ -21,7 +21,7 @@ loop-holds : tie.Need-loop-holds Inv-loop μ-loop
 loop-holds c =
     let b = c .before .before .before .before in
     let φ = formed (b .args .roles .now) (b .args .vee) (b .args .kind) in
-    (omega (arith, c .before .least .ensures, b .pre .1 .ahead .short, start-least φ (b .args .field .now)), search needs, search needs, filled-first _ _ _ (b .pre .1))
+    (omega (arith, c .before .before-vee .ensures, b .pre .1 .ahead .short, start-least φ (b .args .field .now)), search needs, search needs, filled-first _ _ _ (b .pre .1))
 
 returns : tie.Need-returns Inv-loop μ-loop
 returns c =

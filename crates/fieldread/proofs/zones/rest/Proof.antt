@@ -32,7 +32,7 @@ returns c =
     let at = x .before .before .before .before .before in
     let a = at .before .before .before .args in
     let h : at .loop .k < length (a .roles .now) = omega arith in
-    said-none (formed (a .roles .now) (a .vee) (a .kind)) (a .field .now) _ (at .loop .inv .2) h (sym (x .before .is-digit .ensures) ∙ x .if1 .taken) (sym (c .before .is-figure .ensures) ∙ not-true _ (c .if2 .taken))
+    said-none (formed (a .roles .now) (a .vee) (a .kind)) (a .field .now) _ (at .loop .inv .2) h (sym (x .before .is-digit .ensures) ∙ x .if1 .taken) (sym (c .before .is-decimal .ensures) ∙ not-true _ (c .if2 .taken))
 
 print-digit-requires : tie.Need-print-digit-requires Inv-loop μ-loop
 print-digit-requires c κs =

@@ -1,0 +1,73 @@
+// The characters that roles show, and the marks CR and DB where a text ends in one.
+ghost use mathlib.Core.Path.{_≡_};
+ghost use mathlib.Core.Bool.{cond};
+ghost use lib.ListN.{drop};
+ghost use Rattle.rules.specs.Text.{isMark};
+ghost use Rattle.rules.specs.Edit.{mark, fill};
+
+fn chosen(test: bool, yes: u8, no: u8) -> u8
+    ensures { λ r. ⌜ r ≡ cond test yes no ⌝ }
+{
+    if test {
+        return yes;
+    }
+    no
+}
+
+// The character of a role that is no digit, and of a drifting symbol by the kind, which has the number of the symbol's static
+// role. CR and DB are written and compared as the letters of these two strings. A byte that is no role shows 0.
+pub fn mark_of(role: u8, negative: bool) -> u8
+    ensures { λ r. ⌜ r ≡ mark role negative ⌝ }
+{
+    let credit = b"CR";
+    let debit = b"DB";
+    match role {
+        0 | 1 | 2 => b' ',
+        3 => chosen(negative, b'-', b'+'),
+        4 => chosen(negative, b' ', b'+'),
+        5 => chosen(negative, b'-', b' '),
+        6 => b'$',
+        7 => b',',
+        8 => b'.',
+        9 => b'/',
+        10 => b' ',
+        11 => chosen(negative, credit[0], b' '),
+        12 => chosen(negative, credit[1], b' '),
+        13 => chosen(negative, debit[0], b' '),
+        14 => chosen(negative, debit[1], b' '),
+        _ => 0,
+    }
+}
+
+// What a suppressed position shows: * in a picture with *, else a blank.
+pub fn fill_of(kind: u8) -> u8
+    ensures { λ r. ⌜ r ≡ fill kind ⌝ }
+{
+    if kind == 2 {
+        return b'*';
+    }
+    b' '
+}
+
+// The credit or the debit mark stands at i and ends the text; from its end on there is none.
+pub fn mark_at(text: &[u8], i: usize) -> bool
+    ensures { λ r. ⌜ r ≡ isMark (drop i (now (text .entry))) ⌝ }
+{
+    if text.len() <= i {
+        return false;
+    }
+    if text.len() - i != 2 {
+        return false;
+    }
+    let credit = b"CR";
+    let debit = b"DB";
+    let a = text[i];
+    let b = text[i + 1];
+    if a == credit[0] {
+        return b == credit[1];
+    }
+    if a == debit[0] {
+        return b == debit[1];
+    }
+    false
+}
