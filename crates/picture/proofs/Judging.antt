@@ -90,9 +90,13 @@ module _ (t : List ℕ) (x : Expanded) (e : x ≡ expandedOf t) where
   verdict-early n = first-stop (Early t) (Late t) (λ z. n (number-is ∙ z)) ∙ sym number-is
 
   -- a refusal before the shape is judged
-  pub early : (x .number ≡ 0 → ⊥) → record { number = x .number; picture = roomOf [] } ≡ verdictOf t
+  picture-none : (x .number ≡ 0 → ⊥) → x .picture ≡ roomOf []
+  unfolding expandedOf expandNumber
+  picture-none n = rw (e, ne-eqb (firstOf (Early t)) 0 (λ z. n (number-is ∙ z)))
+
+  pub early : (x .number ≡ 0 → ⊥) → record { number = x .number; picture = x .picture } ≡ verdictOf t
   unfolding verdictOf pictureOf
-  early n = rw (verdict-early n, ne-eqb _ 0 n)
+  early n = rw (verdict-early n, ne-eqb _ 0 n, picture-none n)
 
   module _ (z : x .number ≡ 0) where
     verdict-late : verdict t ≡ shapeNumber (symbolsOf t)

@@ -4,10 +4,10 @@ use form::one_suppresses;
 use form::one_v;
 use rules::Picture;
 use shape::Judged;
+use text::no_symbols;
 ghost use mathlib.Core.Path.{_≡_};
 ghost use mathlib.Core.Bool.{true};
-ghost use mathlib.Core.List.{[]};
-ghost use Rattle.rules.specs.Text.{heldIn, roomOf};
+ghost use Rattle.rules.specs.Text.{heldIn};
 ghost use Rattle.rules.specs.Form.{formOf};
 ghost use Rattle.rules.proofs.Expand.{spelled};
 ghost use Rattle.shape.specs.Judge.{judgedOf};
@@ -50,30 +50,21 @@ fn shape_number(picture: Picture) -> u8
     0
 }
 
-fn refused(number: u8) -> Verdict
-    ensures { λ r. ⌜ r ≡ record { number = number; picture = roomOf [] } ⌝ }
-{
-    Verdict {
-        number,
-        picture: Picture {
-            symbols: [0; 64],
-            count: 0,
-        },
-    }
-}
-
 pub fn judge(text: &[u8]) -> Verdict
     ensures { λ r. ⌜ r ≡ verdictOf (now (text .entry)) ⌝ }
 {
     let expanded = text::expand(text);
     let number = expanded.number;
-    if number != 0 {
-        return refused(number);
-    }
     let picture = expanded.picture;
+    if number != 0 {
+        return Verdict { number, picture };
+    }
     let shaped = shape_number(picture);
     if shaped != 0 {
-        return refused(shaped);
+        return Verdict {
+            number: shaped,
+            picture: no_symbols(),
+        };
     }
     Verdict { number: 0, picture }
 }

@@ -181,6 +181,16 @@ fn is_plain(mode: Mode) -> bool
     }
 }
 
+// The empty picture.
+pub fn no_symbols() -> Picture
+    ensures { λ r. ⌜ r ≡ roomOf [] ⌝ }
+{
+    Picture {
+        symbols: [0; 64],
+        count: 0,
+    }
+}
+
 // n copies of b behind what the room holds; what falls outside is counted and dropped.
 fn put(picture: Picture, b: u8, n: usize) -> Picture
     requires { ⌜ (picture .count < 65536) × (n ≤ 64) ⌝ }
@@ -206,10 +216,7 @@ fn spell(text: &[u8]) -> Spelled
     ensures { λ r. ⌜ r ≡ spelledOf (now (text .entry)) ⌝ }
 {
     let mut mode = Mode::Plain;
-    let mut picture = Picture {
-        symbols: [0; 64],
-        count: 0,
-    };
+    let mut picture = no_symbols();
     let mut i = 0;
     while i < text.len() {
         let b = text[i];
@@ -229,15 +236,12 @@ fn spell(text: &[u8]) -> Spelled
     Spelled { mode, picture }
 }
 
-fn refused(number: u8) -> Expanded
+fn unspelled(number: u8) -> Expanded
     ensures { λ r. ⌜ r ≡ record { number = number; picture = roomOf [] } ⌝ }
 {
     Expanded {
         number,
-        picture: Picture {
-            symbols: [0; 64],
-            count: 0,
-        },
+        picture: no_symbols(),
     }
 }
 
@@ -246,19 +250,19 @@ pub fn expand(text: &[u8]) -> Expanded
     ensures { λ r. ⌜ r ≡ expandedOf (now (text .entry)) ⌝ }
 {
     if text.len() < 1 {
-        return refused(1);
+        return unspelled(1);
     }
     if 128 < text.len() {
-        return refused(1);
+        return unspelled(1);
     }
     let spelled = spell(text);
     let mode = spelled.mode;
     if !is_plain(mode) {
-        return refused(2);
+        return unspelled(2);
     }
     let picture = spelled.picture;
     if 64 < picture.count {
-        return refused(3);
+        return unspelled(3);
     }
     Expanded { number: 0, picture }
 }

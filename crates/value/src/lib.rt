@@ -15,7 +15,7 @@ pub struct Settled {
     pub t: u64,
 }
 
-fn refused(number: u8) -> Settled
+fn unsettled(number: u8) -> Settled
     ensures { λ r. ⌜ r ≡ record { number = number; negative = false; t = 0 } ⌝ }
 {
     Settled {
@@ -31,20 +31,20 @@ pub fn settle(roles: &[u8], vee: usize, kind: u8, m: i64, q: usize) -> Settled
 {
     let parts = split(m);
     if !parts.fits {
-        return refused(6);
+        return unsettled(6);
     }
     if 15 < q {
-        return refused(6);
+        return unsettled(6);
     }
     let measured = measure(roles, vee, kind);
     let aligned = align(parts.magnitude, q, measured.whole, measured.places);
     if !aligned.fits {
-        return refused(8);
+        return unsettled(8);
     }
     let t = aligned.t;
     let negative = parts.negative & (t != 0);
     if negative & !measured.signed {
-        return refused(8);
+        return unsettled(8);
     }
     Settled {
         number: 0,
