@@ -74,6 +74,3 @@ module _ (m q i f : ℕ) where
 
     pub aligned-t : alignedOf m q i f .fits ≡ true → alignedOf m q i f .t ≡ m * 10 ^ f / 10 ^ q
     aligned-t e = ap (λ (a : Aligned). a .t) (aligned-in (aligned-whole e))
-
-    pub aligned-lt : alignedOf m q i f .fits ≡ true → alignedOf m q i f .t < 10 ^ (i + f)
-    aligned-lt e = rw (aligned-t e) (cut-lt m q i f (aligned-whole e))

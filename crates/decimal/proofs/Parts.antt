@@ -1,18 +1,15 @@
--- The sign and magnitude of a number, and the number of the two, by cases: a law for each way through the code, and what a caller has of
--- the answer. Assumes nothing.
+-- The sign and magnitude of a number by cases: a law for each way through the code, and what a caller has of the answer. Assumes nothing.
 use mathlib.Core.Path.{_≡_, refl, sym, _∙_, ap}
 use mathlib.Core.Bool.{Bool, true, false, _&&_}
 use Prim.Native.Nat.{ℕ, _^_, _≤_, _<_}
-use lib.IntN.{ℤ, pos, natAbs}
+use lib.IntN.{ℤ, natAbs}
 use lib.Dec.{leb, ltb}
-use borrow.Author.Tests.{ltb-true, ltb-false, lt-ltb, le-ltb}
+use borrow.Author.Tests.{ltb-true, lt-ltb, le-ltb}
 use Rattle.rules.specs.Shape.{mostDigits}
 use Rattle.rules.specs.Edit.{inRange, isNegative}
-use Rattle.rules.specs.Candidate.{signed}
 use Rattle.rules.proofs.Logic.{by-test}
 use Rattle.decimal.specs.declared.sign.Parts.{Parts}
-use Rattle.decimal.specs.Sign.{partsOf, joinedOf}
-use Rattle.decimal.proofs.Signs.{signed-parts}
+use Rattle.decimal.specs.Sign.{partsOf}
 
 module _ (z : ℤ) where
   pub parts-out : 10 ^ mostDigits ≤ natAbs z → partsOf z ≡ record { fits = false; negative = false; magnitude = 0 }
@@ -35,30 +32,8 @@ module _ (z : ℤ) where
   pub parts-small : partsOf z .fits ≡ true → natAbs z < 10 ^ mostDigits
   parts-small e = ltb-true _ _ (sym parts-fits ∙ e)
 
-  pub parts-large : partsOf z .fits ≡ false → 10 ^ mostDigits ≤ natAbs z
-  parts-large e = ltb-false _ _ (sym parts-fits ∙ e)
-
-  pub parts-refused : 10 ^ mostDigits ≤ natAbs z → partsOf z .fits ≡ false
-  parts-refused h = parts-fits ∙ le-ltb _ _ h
-
   pub parts-negative : partsOf z .fits ≡ true → partsOf z .negative ≡ isNegative z
   parts-negative e = ap (λ (p : Parts). p .negative) (parts-in (isNegative z) refl (parts-small e))
 
   pub parts-magnitude : partsOf z .fits ≡ true → partsOf z .magnitude ≡ natAbs z
   parts-magnitude e = ap (λ (p : Parts). p .magnitude) (parts-in (isNegative z) refl (parts-small e))
-
-  pub parts-lt : partsOf z .fits ≡ true → partsOf z .magnitude < 10 ^ mostDigits
-  parts-lt e = rw (parts-magnitude e) (parts-small e)
-
-  pub parts-joined : partsOf z .fits ≡ true → joinedOf (partsOf z .negative) (partsOf z .magnitude) ≡ z
-  unfolding joinedOf
-  parts-joined e = rw (parts-negative e, parts-magnitude e, lt-ltb _ _ (parts-small e)) (signed-parts z)
-
-module _ (b : Bool) (t : ℕ) where
-  pub joined-in : t < 10 ^ mostDigits → joinedOf b t ≡ signed b t
-  unfolding joinedOf
-  joined-in h = rw (lt-ltb _ _ h)
-
-  pub joined-out : 10 ^ mostDigits ≤ t → joinedOf b t ≡ pos 0
-  unfolding joinedOf
-  joined-out h = rw (le-ltb _ _ h)

@@ -8,7 +8,7 @@ use native.Mathlib.Numerals.{add-one}
 use native.Mathlib.Omega.{arith}
 use lib.Arith.{digits-div, mod-mul}
 use lib.Dec.{leb, lit<}
-use lib.ListN.{length, getD, set, take, replicate, length-append, length-replicate}
+use lib.ListN.{length, getD, set, take, replicate}
 use lib.Seq.{take-all}
 use borrow.Author.Tests.{leb-true, le-leb, lt-leb}
 use Rattle.rules.specs.Shape.{mostDigits}
@@ -47,13 +47,6 @@ module _ (d t : ℕ) where
       by-test (leb d mostDigits)
       (λ e. rw (room-at (leb-true _ _ e) j) (digits-digits d t j))
       (λ e. rw (e, zeros-at 16 j) (lit< tt))
-
-  pub room-length : length (digitRoom d t .at) ≡ 16
-  unfolding digitRoom
-  room-length =
-      by-test (leb d mostDigits)
-      (λ e. let h : d ≤ mostDigits = leb-true _ _ e in rw (e, length-append, digits-length d t, length-replicate) (omega arith))
-      (λ e. rw (e, length-replicate))
 
 -- the loop's numbers: what is left has the next digit as its quotient, and the digits after it as its remainder
 module _ (t k : ℕ) where

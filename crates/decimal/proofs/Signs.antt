@@ -4,7 +4,7 @@
 use mathlib.Core.Path.{_≡_, refl, sym, _∙_, ap}
 use mathlib.Core.Bool.{Bool, true, false, false≢true}
 use Prim.Native.Nat.{ℕ, zero, suc, _^_, _≤_, _<_, zero-le}
-use native.Mathlib.Nat.{zero-add, not-suc-le-zero}
+use native.Mathlib.Nat.{zero-add}
 use native.Mathlib.Omega.{arith}
 use lib.IntN.{ℤ, pos, negsuc, negℤ, natAbs, _-ℤ_, +ℤ-idl}
 use lib.Signed.{ltZ, leZ}
@@ -15,26 +15,7 @@ use mir.Facts.{toZ-ofZ, toZ-pos}
 use Rattle.rules.specs.Edit.{isNegative}
 use Rattle.rules.specs.Candidate.{signed}
 
--- there and back
-pub signed-parts : (z : ℤ) → signed (isNegative z) (natAbs z) ≡ z
-signed-parts (pos n) = refl
-signed-parts (negsuc n) = refl
-
-pub abs-signed : (b : Bool) (t : ℕ) → natAbs (signed b t) ≡ t
-abs-signed false t = refl
-abs-signed true zero = refl
-abs-signed true (suc t) = refl
-
-pub negative-signed : (t : ℕ) → 0 < t → isNegative (signed true t) ≡ true
-negative-signed zero h = absurd (not-suc-le-zero h)
-negative-signed (suc t) h = refl
-
--- zero has no sign
-pub signed-zero : (b : Bool) → signed b 0 ≡ pos 0
-signed-zero false = refl
-signed-zero true = refl
-
-pub signed-fits : (b : Bool) (t : ℕ) → t < 2 ^ 63 → SFits w64 (signed b t)
+signed-fits : (b : Bool) (t : ℕ) → t < 2 ^ 63 → SFits w64 (signed b t)
 signed-fits false t h = record { sfits = h }
 signed-fits true zero h = record { sfits = h }
 signed-fits true (suc t) h = record { sfits = omega arith }

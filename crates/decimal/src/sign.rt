@@ -1,7 +1,6 @@
-// A signed number as a sign and a magnitude, and back.
-use super::powers::LIMIT;
+// A signed number as a sign and a magnitude.
 ghost use mathlib.Core.Path.{_≡_};
-ghost use Rattle.decimal.specs.Sign.{partsOf, joinedOf};
+ghost use Rattle.decimal.specs.Sign.{partsOf};
 
 // Where `fits` is false the number is 10^15 or more from zero, and the rest is empty.
 pub struct Parts {
@@ -43,19 +42,5 @@ pub fn split(m: i64) -> Parts
         fits: true,
         negative: false,
         magnitude,
-    }
-}
-
-// A minus before 0 is dropped; a magnitude of 10^15 or more gives 0.
-pub fn joined(negative: bool, magnitude: u64) -> i64
-    ensures { λ r. ⌜ r ≡ joinedOf negative magnitude ⌝ }
-{
-    if LIMIT <= magnitude {
-        return 0;
-    }
-    if negative {
-        -(magnitude as i64)
-    } else {
-        magnitude as i64
     }
 }

@@ -2,38 +2,28 @@
 -- out of editing are the cases of its definition. Assumes nothing.
 use mathlib.Core.Path.{_≡_, ap}
 use mathlib.Core.Bool.{Bool, not, _&&_, and-false}
-use mathlib.Core.List.{List, [], _++_}
-use Prim.Native.Nat.{ℕ, _+_, _-_, _<_, _≤_}
+use mathlib.Core.List.{List, []}
+use Prim.Native.Nat.{ℕ, _+_, _<_, _≤_}
 use borrow.Author.Tests.{le-leb, lt-leb}
 use lib.Dec.{eqb, leb}
-use lib.ListN.{replicate}
 use Rattle.rules.specs.Words.{any, count}
 use Rattle.rules.specs.Search.{upTo}
-use Rattle.rules.specs.Digits.{Digits, digitsOf}
 use Rattle.rules.specs.Roles.{isDigit, isNine}
 use Rattle.rules.specs.Form.{Form, size}
 use Rattle.rules.specs.Shape.{digitCount, mostDigits}
 use Rattle.rules.specs.Edit.{allSuppressible, isBlank}
 use Rattle.rules.proofs.Lists.{count-split}
-use Rattle.rules.proofs.Digits.{digits-digits}
 use Rattle.decimal.specs.Digits.{digitRoom}
+use Rattle.decimal.proofs.Room.{room-at}
 use Rattle.field.specs.Results.{fieldRoom, roomOf}
 use Rattle.field.specs.Steps.{cellIn, stretchOf, surveyOf}
-use Rattle.field.proofs.Whole.{field-whole, padded, padded-digits}
+use Rattle.field.proofs.Whole.{field-whole}
 
 module _ (rs : List ℕ) (v : ℕ) where
   -- the digits on both sides of V are all
   pub survey-digits : surveyOf rs v .whole + surveyOf rs v .places ≡ count isDigit rs
   unfolding surveyOf
   survey-digits = count-split isDigit v rs
-
-module _ (d t : ℕ) (h : d ≤ mostDigits) where
-  room-at : digitRoom d t .at ≡ digitsOf d t ++ replicate (16 - d) 0
-  unfolding digitRoom
-  room-at = rw (le-leb d mostDigits h)
-
-  pub room-digits : Digits (digitRoom d t .at)
-  room-digits = rw room-at (padded-digits (digitsOf d t) (16 - d) (digits-digits d t))
 
 module _ (φ : Form) where
   pub room-full : (negative : Bool) (t : ℕ) → size φ ≤ 64 → digitCount φ ≤ mostDigits
@@ -42,7 +32,7 @@ module _ (φ : Form) where
   unfolding fieldRoom isBlank allSuppressible
   room-full negative t n d =
       rw (le-leb (size φ) 64 n, le-leb (digitCount φ) mostDigits d)
-      (ap roomOf (field-whole φ (digitRoom (digitCount φ) t .at) negative t (λ j. rw (room-at (digitCount φ) t d) (padded (digitsOf (digitCount φ) t) (16 - digitCount φ) j))))
+      (ap roomOf (field-whole φ (digitRoom (digitCount φ) t .at) negative t (room-at (digitCount φ) t d)))
 
   pub room-long : (negative : Bool) (t : ℕ) → 64 < size φ → roomOf [] ≡ fieldRoom φ negative t
   unfolding fieldRoom

@@ -1,6 +1,6 @@
 -- One law for each way through a loop of this crate: what a turn adds to what has been counted, shown, written or compared, and where a
 -- search stops. Assumes nothing.
-use mathlib.Core.Path.{_≡_, refl, sym, _∙_, ap}
+use mathlib.Core.Path.{_≡_, refl, sym, _∙_}
 use mathlib.Core.Bool.{Bool, true, false, not, _&&_, _||_, and-false, or-assoc, or-false, or-true}
 use mathlib.Core.List.{List, [], _∷_, _++_, append-assoc}
 use Prim.Native.Nat.{ℕ, zero, suc, _+_, _-_, _<_, _≤_, min}
@@ -119,13 +119,6 @@ shown-same (r ∷ rs) f zero h e = rw e
 shown-same (r ∷ rs) f (suc k) h e =
     let ih = rw add-one at (shown-same rs (drop 1 f) k (le-of-suc-le-suc h) e) in
     rw (add-one, ih)
-
-pub shown-length : (rs f : List ℕ) → length (shownIn rs f) ≡ count isDigit rs
-unfolding shownIn count
-shown-length [] f = refl
-shown-length (r ∷ rs) f =
-    let ih = shown-length rs (drop 1 f) in
-    by-test (isDigit r) (λ e. rw e (ap suc ih)) (λ e. rw e ih)
 
 -- The searches: the place looked for has not been passed.
 module _ (φ : Form) where

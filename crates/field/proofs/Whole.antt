@@ -1,56 +1,30 @@
 -- All characters together are the field: what the steps hand on, digits with zeros after them and a stretch, says at each position what
 -- the definition says there. Assumes nothing.
-use mathlib.Core.Path.{_≡_, refl, sym, _∙_}
+use mathlib.Core.Path.{_≡_, sym, _∙_}
 use mathlib.Core.Bool.{Bool, true, false}
-use mathlib.Core.List.{List, [], _∷_, _++_}
-use Prim.Native.Nat.{ℕ, zero, suc, _<_}
+use mathlib.Core.List.{List}
+use Prim.Native.Nat.{ℕ, _<_}
 use borrow.Author.Tests.{le-leb, lt-ltb, ne-eqb}
 use native.Mathlib.Omega.{arith}
-use lib.Dec.{lit<}
-use lib.ListN.{getD, drop, replicate}
+use lib.ListN.{getD}
 use Rattle.rules.specs.Search.{upTo}
-use Rattle.rules.specs.Digits.{Digits, digitsOf}
-use Rattle.rules.specs.Roles.{drifts, isDigit}
+use Rattle.rules.specs.Digits.{digitsOf}
+use Rattle.rules.specs.Roles.{drifts}
 use Rattle.rules.specs.Form.{Form, size}
 use Rattle.rules.specs.Shape.{digitCount}
 use Rattle.rules.specs.Edit.{digitAt, driftsTo, field, firstShown, inStretch, isBlank, isShown, start}
-use Rattle.rules.specs.Candidate.{digitIn, shown, shownIn, worthOf}
+use Rattle.rules.specs.Candidate.{shown, worthOf}
 use Rattle.rules.specs.Cells.{characterAt}
 use Rattle.rules.proofs.Logic.{by-test}
 use Rattle.rules.proofs.Search.{first-same, upTo-same}
 use Rattle.rules.proofs.Digits.{digits-value}
-use Rattle.rules.proofs.Characters.{digit-small}
+use Rattle.rules.proofs.Exact.{shown-digits, shown-length}
 use Rattle.rules.proofs.Fields.{field-is}
 use Rattle.field.specs.Steps.{cellIn, isInside, stretchOf}
-use Rattle.field.proofs.Loops.{shown-length}
 
 -- digit by digit the same, whatever zeros stand after them
 abbrev pub Alike : List ℕ → List ℕ → Type 0
 Alike ds es = (j : ℕ) → getD ds j 0 ≡ getD es j 0
-
-zeros-at : (n j : ℕ) → getD {A = ℕ} (replicate n 0) j 0 ≡ 0
-zeros-at zero j = refl
-zeros-at (suc n) zero = refl
-zeros-at (suc n) (suc j) = zeros-at n j
-
-pub padded : (xs : List ℕ) (n : ℕ) → Alike (xs ++ replicate n 0) xs
-padded [] n j = zeros-at n j
-padded (x ∷ xs) n zero = refl
-padded (x ∷ xs) n (suc j) = padded xs n j
-
-pub padded-digits : (xs : List ℕ) (n : ℕ) → Digits xs → Digits (xs ++ replicate n 0)
-padded-digits xs n ok k = rw (padded xs n k) (ok k)
-
-pub shown-digits : (rs f : List ℕ) → Digits (shownIn rs f)
-unfolding shownIn
-shown-digits [] f k = lit< tt
-shown-digits (r ∷ rs) f k =
-    let ih = shown-digits rs (drop 1 f) in
-    by-test (isDigit r) (λ e. rw e (head k ih)) (λ e. rw e (ih k))
-  where
-    head : (k : ℕ) → Digits (shownIn rs (drop 1 f)) → getD (digitIn (getD f 0 0) ∷ shownIn rs (drop 1 f)) k 0 < 10
-    head zero ih = digit-small _
-    head (suc k) ih = ih k
 
 module _ (φ : Form) where
   -- the digits that a field shows are the digits of what they are worth

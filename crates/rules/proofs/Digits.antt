@@ -69,10 +69,6 @@ value-snoc (y ∷ ys) x = rw (length-append ys, add-one, pow-suc, ← mul-assoc,
 pub ten-le : (i k : ℕ) → i ≤ k → 10 ^ i ≤ 10 ^ k
 ten-le i k h = pow-le-pow-right (lit< tt) h
 
--- the bound that such a loop keeps
-pub more-lt : (t d i : ℕ) → t < 10 ^ i → d < 10 → t * 10 + d < 10 ^ (i + 1)
-more-lt t d i ht hd = rw (add-one, pow-suc) (digits-lt ht hd)
-
 -- every digit of 0 is 0
 pub digits-zero : (d k : ℕ) → getD (digitsOf d 0) k 0 ≡ 0
 unfolding digitsOf

@@ -14,12 +14,12 @@ use Rattle.rules.specs.Text.{next}
 use Rattle.rules.specs.Roles.{isDigit}
 use Rattle.rules.specs.Form.{Form, roleAt, size}
 use Rattle.rules.specs.Shape.{digitCount}
-use Rattle.rules.specs.Digits.{Digits, digitsOf, valueOf}
+use Rattle.rules.specs.Digits.{digitsOf, valueOf}
 use Rattle.rules.specs.Edit.{allSuppressible, cell, cellAt, digitAt, field, isBlank, suppressed}
 use Rattle.rules.specs.Candidate.{digitIn, shown, shownIn}
 use Rattle.rules.specs.Cells.{characterAt}
 use Rattle.rules.proofs.Search.{getD-upTo, length-upTo, upTo-same}
-use Rattle.rules.proofs.Digits.{digits-digits, digits-length, digits-value, digits-zero, ten-pos, value-digits}
+use Rattle.rules.proofs.Digits.{digits-digits, digits-length, digits-zero, ten-pos, value-digits}
 use Rattle.rules.proofs.Characters.{fill-shows, none-shows}
 use Rattle.rules.proofs.Logic.{both, side}
 use Rattle.rules.proofs.Stretch.{cell-shows}
@@ -70,10 +70,6 @@ module _ (φ : Form) where
       (λ (b : isBlank φ t ≡ true). rw (field-blank neg t b, getD-upTo _ _ k l, fill-shows, blank-zero t b) (sym (digits-zero _ _)))
       (λ (b : isBlank φ t ≡ false). rw (field-cells neg t b, getD-upTo _ _ k l) (cell-shows φ _ (digits-digits _ t) neg k e))
       (side (isBlank φ t)))
-
-  -- and so for any digits, as many as the picture has
-  pub shown-value : (neg : Bool) (ds : List ℕ) → Digits ds → length ds ≡ digitCount φ → shown φ (field φ neg (valueOf ds)) ≡ ds
-  shown-value neg ds ok l = shown-field neg (valueOf ds) ∙ rw (← l) (digits-value ds ok)
 
   -- the field place by place
   pub field-is : (neg : Bool) (t : ℕ) → field φ neg t ≡ upTo (size φ) (characterAt φ (digitsOf (digitCount φ) t) (isBlank φ t) neg)

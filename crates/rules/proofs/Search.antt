@@ -58,9 +58,6 @@ first-least p n k e = ⊎-elim (λ (l : k < first p n). absurd (true≢false (sy
 pub first-here : (p : ℕ → Bool) (n i : ℕ) → i ≤ first p n → p i ≡ true → first p n ≡ i
 first-here p n i h e = let l = first-least p n i e in omega arith
 
-pub first-end : (p : ℕ → Bool) (n i : ℕ) → i ≤ first p n → n ≤ i → first p n ≡ i
-first-end p n i h e = let l = first-le p n in omega arith
-
 -- a weaker test is met no later
 pub first-mono : (p q : ℕ → Bool) (n : ℕ) → ((k : ℕ) → k < n → q k ≡ true → p k ≡ true) → first p n ≤ first q n
 first-mono p q n h =

@@ -9,8 +9,9 @@ use Rattle.rules.specs.Form.{formed}
 use Rattle.rules.specs.Shape.{mostDigits}
 use Rattle.rules.proofs.Lists.{count-le}
 use Rattle.decimal.specs.Digits.{digitRoom}
+use Rattle.decimal.proofs.Room.{room-digits}
 use Rattle.field.specs.Steps.{surveyOf}
-use Rattle.field.proofs.Calls.{room-digits, room-full, room-long, room-many, survey-digits}
+use Rattle.field.proofs.Calls.{room-full, room-long, room-many, survey-digits}
 use Rattle.field.proofs.edit.Statement.{statement}
 use Rattle.field.proofs.edit.Tie as tie
 
@@ -38,7 +39,7 @@ made : (c : tie.After-digits) → c .digits .result ≡ digitRoom (count isDigit
 made c = rw (← all (c .before .before .before)) (c .digits .ensures)
 
 put-requires : tie.Need-put-requires
-put-requires c κs = (search needs, rw (made (c .before .before .before .before .before)) (room-digits _ _ (few (c .before .before .before .before .before .before))))
+put-requires c κs = (search needs, rw (made (c .before .before .before .before .before)) (room-digits _ _))
 
 returns-3 : tie.Need-returns-3
 unfolding surveyOf
