@@ -1,7 +1,6 @@
 // A magnitude moved from one scale to another, cut toward zero, with no number over 64 bits on the way.
-use super::powers::LIMIT;
-use super::powers::MOST;
 use super::powers::POWERS;
+use rules::Picture;
 ghost use mathlib.Core.Path.{_≡_};
 ghost use Rattle.decimal.specs.Align.{alignedOf};
 
@@ -16,16 +15,16 @@ pub fn align(magnitude: u64, q: usize, whole: usize, places: usize) -> Aligned
     ensures { λ r. ⌜ r ≡ alignedOf magnitude q whole places ⌝ }
 {
     let refused = Aligned { fits: false, t: 0 };
-    if LIMIT <= magnitude {
+    if Picture::LIMIT <= magnitude {
         return refused;
     }
-    if MOST < q {
+    if Picture::MOST_SCALE < q {
         return refused;
     }
-    if MOST < whole {
+    if Picture::MOST_DIGITS < whole {
         return refused;
     }
-    if MOST - whole < places {
+    if Picture::MOST_DIGITS - whole < places {
         return refused;
     }
     let powers = POWERS;

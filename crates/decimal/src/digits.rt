@@ -1,12 +1,12 @@
 // The digits of a magnitude, the first the most significant.
-use super::powers::MOST;
 use super::powers::POWERS;
+use rules::Picture;
 ghost use mathlib.Core.Path.{_≡_};
 ghost use Rattle.decimal.specs.Digits.{digitRoom};
 
 // The digits stand first, and 0 in every place after them.
 pub struct DigitRoom {
-    pub at: [u8; 16],
+    pub at: [u8; Picture::MOST_DIGITS + 1],
 }
 
 // The last `count` digits of t, of which there are 15 at most; else every place is 0. What stands above them is taken off first, so
@@ -14,8 +14,8 @@ pub struct DigitRoom {
 pub fn digits(t: u64, count: usize) -> DigitRoom
     ensures { λ r. ⌜ r ≡ digitRoom count t ⌝ }
 {
-    let mut at = [0u8; 16];
-    if MOST < count {
+    let mut at = [0u8; Picture::MOST_DIGITS + 1];
+    if Picture::MOST_DIGITS < count {
         return DigitRoom { at };
     }
     let powers = POWERS;

@@ -1,4 +1,5 @@
 // A signed number as a sign and a magnitude.
+use rules::Picture;
 ghost use mathlib.Core.Path.{_≡_};
 ghost use Rattle.decimal.specs.Sign.{partsOf};
 
@@ -10,9 +11,9 @@ pub struct Parts {
 }
 
 // The limit with either sign. A negation in a test would be an operation, so the second is a constant too.
-const ABOVE: i64 = 1_000_000_000_000_000;
+const ABOVE: i64 = Picture::LIMIT as i64;
 
-const BELOW: i64 = -1_000_000_000_000_000;
+const BELOW: i64 = -ABOVE;
 
 // The range is tested before the negation, which would wrap at the type's least number.
 pub fn split(m: i64) -> Parts

@@ -4,6 +4,7 @@ use mathlib.Core.List.{List, [], _++_}
 use Prim.Native.Nat.{ℕ, _-_}
 use lib.Dec.{leb}
 use lib.ListN.{length, replicate}
+use Rattle.rules.specs.Text.{mostSymbols}
 use Rattle.rules.specs.Form.{Form, size}
 use Rattle.rules.specs.Shape.{digitCount, mostDigits, places, whole}
 use Rattle.rules.specs.Edit.{field, hasSign}
@@ -15,8 +16,8 @@ measureOf φ = record { whole = whole φ; places = places φ; signed = hasSign �
 
 -- the room that holds these characters: every place that is not used is 0
 unfoldable pub roomOf : List ℕ → Field
-roomOf xs = record { chars = xs ++ replicate (64 - length xs) 0; count = length xs }
+roomOf xs = record { chars = xs ++ replicate (mostSymbols - length xs) 0; count = length xs }
 
 -- a form with more positions or digits than a picture may have gives an empty room
 unfoldable pub fieldRoom : Form → Bool → ℕ → Field
-fieldRoom φ negative t = cond (leb (size φ) 64 && leb (digitCount φ) mostDigits) (roomOf (field φ negative t)) (roomOf [])
+fieldRoom φ negative t = cond (leb (size φ) mostSymbols && leb (digitCount φ) mostDigits) (roomOf (field φ negative t)) (roomOf [])

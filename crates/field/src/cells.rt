@@ -6,11 +6,13 @@ use roles::digits_at;
 use roles::is_digit;
 use roles::marks::fill_of;
 use roles::marks::mark_of;
+use rules::Picture;
 ghost use mathlib.Core.Path.{_≡_};
 ghost use Prim.Native.Nat.{_≤_, _<_};
 ghost use lib.Dec.{eqb};
 ghost use lib.ListN.{length};
 ghost use Rattle.rules.specs.Search.{upTo};
+ghost use Rattle.rules.specs.Text.{mostSymbols};
 ghost use Rattle.rules.specs.Digits.{Digits};
 ghost use Rattle.rules.specs.Edit.{cell};
 ghost use Rattle.field.specs.Results.{roomOf};
@@ -44,10 +46,10 @@ fn cell_of(kind: u8, role: u8, stretch: Stretch, k: usize, negative: bool, d: u8
 
 // All characters; j digits stand before position k.
 pub(crate) fn put(roles: &[u8], kind: u8, stretch: Stretch, ds: &[u8], negative: bool) -> Field
-    requires { ⌜ (length (now roles) ≤ 64) × Digits (now ds) ⌝ }
+    requires { ⌜ (length (now roles) ≤ mostSymbols) × Digits (now ds) ⌝ }
     ensures { λ r. ⌜ r ≡ roomOf (upTo (length (now (roles .entry))) (cellIn (now (roles .entry)) kind stretch (now (ds .entry)) negative)) ⌝ }
 {
-    let mut chars = [0u8; 64];
+    let mut chars = [0u8; Picture::MOST_SYMBOLS];
     let mut j: usize = 0;
     for k in 0..roles.len() {
         let role = roles[k];

@@ -7,6 +7,7 @@ mod survey; // survey.rt: one pass over the roles, for measuring and editing
 use cells::put;
 use decimal::digits::digits;
 use roles::sign_drifts;
+use rules::Picture;
 use stretch::is_blank;
 use stretch::stretch_of;
 use survey::survey_of;
@@ -14,11 +15,6 @@ ghost use mathlib.Core.Path.{_≡_};
 ghost use mathlib.Core.List.{[]};
 ghost use Rattle.rules.specs.Form.{formed};
 ghost use Rattle.field.specs.Results.{measureOf, roomOf, fieldRoom};
-
-// More digits or positions than these no picture has, and the rooms have no place for them.
-const MOST_DIGITS: usize = 15;
-
-const MOST_POSITIONS: usize = 64;
 
 // The digits before and after V, and whether the form has a sign.
 pub struct Measured {
@@ -29,7 +25,7 @@ pub struct Measured {
 
 // The characters of a field with their count; unused places are 0.
 pub struct Field {
-    pub chars: [u8; 64],
+    pub chars: [u8; Picture::MOST_SYMBOLS],
     pub count: usize,
 }
 
@@ -37,7 +33,7 @@ fn empty() -> Field
     ensures { λ r. ⌜ r ≡ roomOf [] ⌝ }
 {
     Field {
-        chars: [0; 64],
+        chars: [0; Picture::MOST_SYMBOLS],
         count: 0,
     }
 }
@@ -58,12 +54,12 @@ pub fn measure(roles: &[u8], vee: usize, kind: u8) -> Measured
 pub fn edit(roles: &[u8], vee: usize, kind: u8, negative: bool, t: u64) -> Field
     ensures { λ r. ⌜ r ≡ fieldRoom (formed (now (roles .entry)) vee kind) negative t ⌝ }
 {
-    if MOST_POSITIONS < roles.len() {
+    if Picture::MOST_SYMBOLS < roles.len() {
         return empty();
     }
     let seen = survey_of(roles, vee);
     let count = seen.whole + seen.places;
-    if MOST_DIGITS < count {
+    if Picture::MOST_DIGITS < count {
         return empty();
     }
     let made = digits(t, count);

@@ -10,9 +10,6 @@ ghost use mathlib.Core.Path.{_≡_};
 ghost use Rattle.rules.specs.Form.{formed};
 ghost use Rattle.fieldread.specs.Results.{readIn};
 
-// More digits than these no picture has.
-const MOST_DIGITS: usize = 15;
-
 // The one value that has this field, if any has. A field of another length has none.
 pub fn read(roles: &[u8], vee: usize, kind: u8, field: &[u8]) -> Reading
     ensures { λ r. ⌜ r ≡ readIn (formed (now (roles .entry)) vee kind) (now (field .entry)) ⌝ }

@@ -1,7 +1,6 @@
 // The value that has a field: what its digits are worth, with the sign under which the field is that value's. Beside the one pass of
 // zones.rt the roles are looked at only for a nine at the value 0, for a sign where the marks are those of minus, and where there are
 // positions enough for too many digits.
-use super::MOST_DIGITS;
 use super::zones::Said;
 use super::zones::compared;
 use super::zones::hide;
@@ -11,6 +10,7 @@ use roles::is_nine;
 use roles::is_sign;
 use roles::marks::fill_of;
 use roles::sign_drifts;
+use rules::Picture;
 use rules::Reading;
 ghost use mathlib.Core.Path.{_≡_};
 ghost use mathlib.Core.Bool.{false};
@@ -31,10 +31,10 @@ pub(crate) fn is_many(roles: &[u8]) -> bool
     ensures { λ r. ⌜ r ≡ ltb mostDigits (count isDigit (now (roles .entry))) ⌝ }
 {
     let mut k = roles.len();
-    if k <= MOST_DIGITS {
+    if k <= Picture::MOST_DIGITS {
         return false;
     }
-    let mut spare = k - MOST_DIGITS;
+    let mut spare = k - Picture::MOST_DIGITS;
     while 0 < k {
         k -= 1;
         spare = spare + digits_at(roles[k]) - 1;

@@ -7,6 +7,7 @@ use mathlib.Core.List.{List, [], _∷_, _++_}
 use lib.Dec.{eqb}
 use lib.ListN.{length, getD, take, replicate}
 use Rattle.rules.specs.Words.{text}
+use Rattle.rules.specs.Text.{mostSymbols}
 use Rattle.rules.specs.Roles.{lastKind}
 use Rattle.rules.specs.Form.{Form, kindOf, ofKind}
 use Rattle.rules.specs.Good.{suppressing}
@@ -25,7 +26,7 @@ roleOf k met c = cond (ofKind k c) (cond met 1 2) c
 
 -- the room that holds these roles, and the roles in a room
 unfoldable pub rolesRoom : List ℕ → Roles
-rolesRoom rs = record { at = rs ++ replicate (64 - length rs) 0; count = length rs }
+rolesRoom rs = record { at = rs ++ replicate (mostSymbols - length rs) 0; count = length rs }
 
 unfoldable pub rolesHeld : Roles → List ℕ
 rolesHeld room = take (room .count) (room .at)
@@ -46,4 +47,4 @@ unfoldable pub suppressionOf : List ℕ → Suppression
 suppressionOf ns = record { kind = kindOf ns; kinds = suppressing lastKind ns }
 
 unfoldable pub meaningOf : Form → Meaning
-meaningOf φ = record { roles = φ .roles ++ replicate (64 - length (φ .roles)) 0; size = length (φ .roles); vee = φ .vee; kind = φ .kind }
+meaningOf φ = record { roles = φ .roles ++ replicate (mostSymbols - length (φ .roles)) 0; size = length (φ .roles); vee = φ .vee; kind = φ .kind }

@@ -7,14 +7,14 @@ ghost use Prim.Native.Nat.{_≤_, _<_};
 ghost use lib.Dec.{leb};
 ghost use lib.ListN.{length};
 ghost use Rattle.rules.specs.Words.{times, place};
-ghost use Rattle.rules.specs.Text.{theV, heldIn};
+ghost use Rattle.rules.specs.Text.{theV, mostSymbols, heldIn};
 ghost use Rattle.rules.specs.Form.{number, numbers, suppresses, ofKind, rolesFrom, formOf};
 ghost use Rattle.rules.specs.Shape.{oneV, oneDrifts, suppressionApart};
 ghost use Rattle.form.specs.Rooms.{Whole, roleOf, rolesRoom, placedIn, suppressionOf, meaningOf, kindLetter, markNumber};
 
 // Roles with their count, in a room of 64; unused places are 0.
 pub struct Roles {
-    pub at: [u8; 64],
+    pub at: [u8; Picture::MOST_SYMBOLS],
     pub count: usize,
 }
 
@@ -32,7 +32,7 @@ pub struct Suppression {
 
 // A form: the roles of its positions with their number, the positions before V, and the kind.
 pub struct Meaning {
-    pub roles: [u8; 64],
+    pub roles: [u8; Picture::MOST_SYMBOLS],
     pub size: usize,
     pub vee: usize,
     pub kind: u8,
@@ -40,11 +40,11 @@ pub struct Meaning {
 
 // How many symbols the room holds; a count over 64 means all of it.
 fn held(picture: Picture) -> usize
-    ensures { λ r. ⌜ (r ≡ length (heldIn picture)) × (r ≤ 64) ⌝ }
+    ensures { λ r. ⌜ (r ≡ length (heldIn picture)) × (r ≤ mostSymbols) ⌝ }
 {
     let count = picture.count;
-    if 64 <= count {
-        return 64;
+    if Picture::MOST_SYMBOLS <= count {
+        return Picture::MOST_SYMBOLS;
     }
     count
 }
@@ -204,7 +204,7 @@ fn role_of(kind: u8, met: bool, number: u8) -> u8
 
 // One position more, whose symbol has this number.
 fn with_number(placed: Placed, kind: u8, number: u8) -> Placed
-    requires { ⌜ (Whole (placed .roles)) × (placed .roles .count < 64) ⌝ }
+    requires { ⌜ (Whole (placed .roles)) × (placed .roles .count < mostSymbols) ⌝ }
     ensures { λ r. ⌜ r ≡ placedIn placed kind number ⌝ }
 {
     let role = role_of(kind, placed.met, number);
@@ -220,12 +220,12 @@ fn with_number(placed: Placed, kind: u8, number: u8) -> Placed
 
 // The roles of a picture of this kind with these symbols.
 fn roles_of(symbols: &[u8], kind: u8) -> Roles
-    requires { ⌜ length (now symbols) ≤ 64 ⌝ }
+    requires { ⌜ length (now symbols) ≤ mostSymbols ⌝ }
     ensures { λ r. ⌜ r ≡ rolesRoom (rolesFrom kind (leb kind 2) (numbers (now (symbols .entry)))) ⌝ }
 {
     let mut placed = Placed {
         roles: Roles {
-            at: [0; 64],
+            at: [0; Picture::MOST_SYMBOLS],
             count: 0,
         },
         met: kind <= 2,

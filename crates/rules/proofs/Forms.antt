@@ -11,7 +11,7 @@ use lib.Dec.{eqb, leb, ltb}
 use lib.ListN.{length, length-map}
 use Rattle.rules.specs.Words.{any, count, one, place, times}
 use Rattle.rules.specs.Numbers.{firstOf}
-use Rattle.rules.specs.Text.{expand, isSome, mostSymbols, orNone, symbolsOf, textFits, theV}
+use Rattle.rules.specs.Text.{expand, isSome, mostSymbols, mostText, orNone, symbolsOf, textFits, theV}
 use Rattle.rules.specs.Roles.{driftsSign, isDigit, isSign, isSuppressible, lastKind}
 use Rattle.rules.specs.Form.{Form, formOf, kindOf, meaning, numbers, rolesFrom, size, suppresses}
 use Rattle.rules.specs.Shape.{digitsFit, drifting, driftsBeforeV, formShape, mostDigits, ninesLast, oneDrifts, oneSign, oneV, shape, staticsPlaced, suppressedPlaces, suppressionApart, verdict}
@@ -178,7 +178,7 @@ module _ (φ : Form) (g : Good φ) where
   accepted-back =
       let n = size-back in
       let a : leb 1 (length (writeBack φ)) ≡ true = le-leb 1 (length (writeBack φ)) (omega (arith, some-digit)) in
-      let b : leb (length (writeBack φ)) 128 ≡ true = le-leb (length (writeBack φ)) 128 (omega (arith, g .size)) in
+      let b : leb (length (writeBack φ)) mostText ≡ true = le-leb (length (writeBack φ)) mostText (omega (arith, g .size)) in
       let c : leb (length (writeBack φ)) 64 ≡ true = le-leb (length (writeBack φ)) 64 (omega (arith, g .size)) in
       rw (a, b, text-back, c, shape-back, form-back, g .digits)
 

@@ -15,8 +15,11 @@ abbrev pub theV : ℕ
 theV = code "V"
 
 -- "A picture text has 1 to 128 bytes."
+abbrev pub mostText : ℕ
+mostText = 128
+
 unfoldable pub textFits : List ℕ → Bool
-textFits t = leb 1 (length t) && leb (length t) 128
+textFits t = leb 1 (length t) && leb (length t) mostText
 
 -- "Its symbols are `9 Z * V , . / B S + - $`"
 abbrev pub symbols : List ℕ

@@ -1,5 +1,5 @@
 // What document 01 says, as definitions (specs/), with the laws that every other crate cites (proofs/). The types that the
-// definitions speak of stand here, so that every crate shares them; the crate has no function.
+// definitions speak of stand here with the limits, so that every crate shares them; the crate has no function.
 
 // What a call hands back. A refusal has its number, the field it lies in where 01 gives one, length 0 and value 0; number 0 is
 // success, with the length that 01 gives for the call and, where a single field is read, its value.
@@ -10,12 +10,39 @@ pub struct Answer {
     pub value: i64,
 }
 
-// The symbols of a picture with their count, in a fixed room of 64. Unused places are 0; a refused picture has count 0 and
-// every place 0.
+// The symbols of a picture with their count, in a fixed room. Unused places are 0; a refused picture has count 0 and every place 0.
 pub struct Picture {
-    pub symbols: [u8; 64],
+    pub symbols: [u8; Picture::MOST_SYMBOLS],
     pub count: usize,
 }
+
+// The limits of a picture and of its values. Contracts cite the numbers of specs/, so that a proof fails where one differs from these.
+impl Picture {
+    // digits
+    pub const MOST_DIGITS: usize = 15;
+
+    // the scale of a value
+    pub const MOST_SCALE: usize = Picture::MOST_DIGITS;
+
+    // the first magnitude that is out of range, 10 to the power of the digits
+    pub const LIMIT: u64 = 1_000_000_000_000_000;
+
+    // bytes of a text
+    pub const MOST_TEXT: usize = 128;
+
+    // what a factor is worth
+    pub const MOST_COPIES: usize = 64;
+
+    // symbols, and so positions
+    pub const MOST_SYMBOLS: usize = 64;
+}
+
+// Those of a layout, its pictures and its bytes, and of what is listed, in bytes.
+pub const MOST_PICTURES: usize = 32;
+
+pub const MOST_LAYOUT: usize = 4128;
+
+pub const MOST_INPUT: usize = 65536;
 
 // What has been read of a factor, in going through a picture text.
 pub enum Mode {

@@ -4,6 +4,7 @@
 pub mod tables; // tables.rt: the machine and the weights
 
 use roles::before_vee;
+use rules::Picture;
 use tables::next_table;
 use tables::weight_table;
 ghost use Prim.Native.Nat.{_+_, _*_, _<_, _≤_};
@@ -16,9 +17,7 @@ ghost use Rattle.shape.specs.Machine.{bornOut, columnOf, foundBy, foundI
 
 const LAST_KIND: u8 = 6;
 
-const MOST_SYMBOLS: usize = 64;
-
-const MOST_DIGITS: u64 = 15;
+const MOST_DIGITS: u64 = Picture::MOST_DIGITS as u64;
 
 // From this phase on no rule is broken and no mark broken off.
 const UNBROKEN: usize = 48;
@@ -130,7 +129,7 @@ pub fn judge_by(next: &[u8; 272], weight: &[u32; 16], roles: &[u8], vee: usize, 
     ensures { λ r. ⌜ r ≡ foundBy (now (next .entry)) (now (weight .entry)) (formed (now (roles .entry)) vee kind) ⌝ }
 {
     let n = roles.len();
-    if MOST_SYMBOLS < n {
+    if Picture::MOST_SYMBOLS < n {
         return Judged {
             shaped: false,
             digits: false,
@@ -159,9 +158,9 @@ fn fits_room(n: usize, vee: usize) -> bool
         return false;
     }
     if n == vee {
-        return n <= MOST_SYMBOLS;
+        return n <= Picture::MOST_SYMBOLS;
     }
-    n < MOST_SYMBOLS
+    n < Picture::MOST_SYMBOLS
 }
 
 // Whether the pass by these tables takes the form for that of an accepted picture. A kind of its own, judged by other rules, has

@@ -7,7 +7,7 @@ ghost use mathlib.Core.Path.{_≡_};
 ghost use mathlib.Core.List.{[]};
 ghost use Prim.Native.Nat.{_+_, _*_, _<_, _≤_};
 ghost use lib.ListN.{length, replicate};
-ghost use Rattle.rules.specs.Text.{isSymbol, repeats, worth, allows, isPlain, next, copies, roomOf};
+ghost use Rattle.rules.specs.Text.{isSymbol, repeats, worth, allows, isPlain, next, copies, roomOf, mostText, mostCopies};
 ghost use Rattle.text.specs.Expansion.{expandedOf, filled, spelledOf};
 
 // What has been read of a text: the mode in which it ends, and the symbols that it has given. A count above 64 says how
@@ -100,7 +100,7 @@ fn is_allowed(n: usize, b: u8) -> bool
     if n < 1 {
         return false;
     }
-    n <= 64
+    n <= Picture::MOST_COPIES
 }
 
 // What has been read of a factor after one byte more.
@@ -146,7 +146,7 @@ fn step(mode: Mode, b: u8) -> Mode
 
 // How many symbols the byte gives. A factor is judged where it is used, so this is at most 64.
 fn count_of(mode: Mode, b: u8) -> usize
-    ensures { λ r. ⌜ (r ≡ copies mode b) × (r ≤ 64) ⌝ }
+    ensures { λ r. ⌜ (r ≡ copies mode b) × (r ≤ mostCopies) ⌝ }
 {
     match mode {
         Mode::Plain => {
@@ -186,21 +186,21 @@ pub fn no_symbols() -> Picture
     ensures { λ r. ⌜ r ≡ roomOf [] ⌝ }
 {
     Picture {
-        symbols: [0; 64],
+        symbols: [0; Picture::MOST_SYMBOLS],
         count: 0,
     }
 }
 
 // n copies of b behind what the room holds; what falls outside is counted and dropped.
 fn put(picture: Picture, b: u8, n: usize) -> Picture
-    requires { ⌜ (picture .count < 65536) × (n ≤ 64) ⌝ }
+    requires { ⌜ (picture .count < 65536) × (n ≤ mostCopies) ⌝ }
     ensures { λ r. ⌜ r ≡ filled picture (replicate n b) ⌝ }
 {
     let at = picture.count;
     let mut out = picture.symbols;
     for k in 0..n {
         let i = at + k;
-        if i < 64 {
+        if i < Picture::MOST_SYMBOLS {
             out[i] = b;
         }
     }
@@ -212,7 +212,7 @@ fn put(picture: Picture, b: u8, n: usize) -> Picture
 
 // The walk.
 fn spell(text: &[u8]) -> Spelled
-    requires { ⌜ length (now text) ≤ 128 ⌝ }
+    requires { ⌜ length (now text) ≤ mostText ⌝ }
     ensures { λ r. ⌜ r ≡ spelledOf (now (text .entry)) ⌝ }
 {
     let mut mode = Mode::Plain;
@@ -252,7 +252,7 @@ pub fn expand(text: &[u8]) -> Expanded
     if text.len() < 1 {
         return unspelled(1);
     }
-    if 128 < text.len() {
+    if Picture::MOST_TEXT < text.len() {
         return unspelled(1);
     }
     let spelled = spell(text);
@@ -261,7 +261,7 @@ pub fn expand(text: &[u8]) -> Expanded
         return unspelled(2);
     }
     let picture = spelled.picture;
-    if 64 < picture.count {
+    if Picture::MOST_SYMBOLS < picture.count {
         return unspelled(3);
     }
     Expanded { number: 0, picture }

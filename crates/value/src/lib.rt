@@ -2,6 +2,7 @@
 use decimal::align::align;
 use decimal::sign::split;
 use field::measure;
+use rules::Picture;
 ghost use mathlib.Core.Path.{_≡_};
 ghost use mathlib.Core.Bool.{false};
 ghost use Prim.Native.Nat.{_<_, _≤_};
@@ -33,7 +34,7 @@ pub fn settle(roles: &[u8], vee: usize, kind: u8, m: i64, q: usize) -> Settled
     if !parts.fits {
         return unsettled(6);
     }
-    if 15 < q {
+    if Picture::MOST_SCALE < q {
         return unsettled(6);
     }
     let measured = measure(roles, vee, kind);
