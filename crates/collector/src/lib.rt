@@ -1,9 +1,11 @@
 // The calls of a C program, on plain numbers and byte runs: a run is a pointer and then its length. Each answers one 64-bit
 // number, the number plus 256 times the field plus 65,536 times the length. include/morvenka.h declares them.
 use rules::Answer;
+use rules::MOST_PICTURES;
 ghost use mathlib.Core.Path.{_≡_};
 ghost use Prim.Native.Nat.{_/_, _≤_, min};
 ghost use lib.ListN.{length};
+ghost use Rattle.rules.specs.Layout.{mostPictures};
 ghost use Rattle.rules.specs.Answers.{checkAnswer, editAnswer, editMemory, compileAnswer, compileMemory};
 ghost use Rattle.rules.specs.Collector.{packed, ReadRunIs};
 ghost use Rattle.collector.specs.PlanRuns.{PlanReadRunIs, PlanEditRunIs, rowCount};
@@ -64,18 +66,18 @@ pub extern "C" fn morvenka_compile(layout: &[u8], plan: &mut [u8]) -> u64
 
 // No plan has more than 32 fields, so that a row of 32 numbers holds what a longer run would.
 fn places_in(bytes: usize) -> usize
-    ensures { λ r. ⌜ r ≡ min (bytes / 8) 32 ⌝ }
+    ensures { λ r. ⌜ r ≡ min (bytes / 8) mostPictures ⌝ }
 {
     let places = bytes / 8;
-    if 32 < places {
-        return 32;
+    if MOST_PICTURES < places {
+        return MOST_PICTURES;
     }
     places
 }
 
 // By a row of as many numbers as the run holds whole, 32 at the most.
 fn read_by(plan: &[u8], record: &[u8], values: &mut [i64], row: &mut [u8]) -> u64
-    requires { ⌜ length (now values) ≡ min (length (now row) / 8) 32 ⌝ }
+    requires { ⌜ length (now values) ≡ min (length (now row) / 8) mostPictures ⌝ }
     ensures { λ r. ⌜ PlanReadRunIs (now (plan .entry)) (now («record» .entry)) (now (row .entry)) r (now (row .exit)) ⌝ }
 {
     let answer = planread::read(plan, record, values);
@@ -92,7 +94,7 @@ fn read_by(plan: &[u8], record: &[u8], values: &mut [i64], row: &mut [u8]) -> u6
 pub extern "C" fn morvenka_plan_read(plan: &[u8], record: &[u8], row: &mut [u8]) -> u64
     ensures { λ r. ⌜ PlanReadRunIs (now (plan .entry)) (now («record» .entry)) (now (row .entry)) r (now (row .exit)) ⌝ }
 {
-    let mut values = [0i64; 32];
+    let mut values = [0i64; MOST_PICTURES];
     let places = places_in(row.len());
     read_by(plan, record, &mut values[0..places], row)
 }
@@ -105,7 +107,7 @@ fn row_count(bytes: usize) -> usize
         return 0;
     }
     let count = bytes / 8;
-    if 32 < count {
+    if MOST_PICTURES < count {
         return 0;
     }
     count
@@ -124,7 +126,7 @@ fn edit_by(plan: &[u8], row: &[u8], values: &mut [i64], record: &mut [u8]) -> u6
 pub extern "C" fn morvenka_plan_edit(plan: &[u8], row: &[u8], record: &mut [u8]) -> u64
     ensures { λ r. ⌜ PlanEditRunIs (now (plan .entry)) (now (row .entry)) (now («record» .entry)) r (now («record» .exit)) ⌝ }
 {
-    let mut values = [0i64; 32];
+    let mut values = [0i64; MOST_PICTURES];
     let count = row_count(row.len());
     edit_by(plan, row, &mut values[0..count], record)
 }

@@ -1,14 +1,11 @@
 // Where the pictures of a layout end, and whether their count is right.
+use rules::MOST_LAYOUT;
+use rules::MOST_PICTURES;
 ghost use mathlib.Core.Path.{_≡_};
 ghost use Prim.Native.Nat.{_≤_};
 ghost use lib.ListN.{length};
 ghost use Rattle.rules.specs.Layout.{countFits};
 ghost use Rattle.layout.specs.Passes.{EndIs};
-
-// "A layout text is 1 to 32 pictures, each ended by `;`, at most 4,128 bytes."
-const MOST_LAYOUT: usize = 4128;
-
-const MOST_PICTURES: usize = 32;
 
 // The place of the next `;` from here on; the length where there is none.
 pub(crate) fn next_end(layout: &[u8], from: usize) -> usize

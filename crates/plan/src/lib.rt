@@ -1,4 +1,5 @@
 // Which bytes are a plan: the counts first, then each field's form by its part of the positions. Nothing is compiled again.
+use rules::MOST_PICTURES;
 use shape::is_good_by;
 use shape::tables::next_table;
 use shape::tables::weight_table;
@@ -6,16 +7,15 @@ ghost use mathlib.Core.Path.{_≡_};
 ghost use mathlib.Core.Bool.{_&&_};
 ghost use Prim.Native.Nat.{_+_, _*_, _<_, _≤_};
 ghost use lib.ListN.{length};
+ghost use Rattle.rules.specs.Layout.{mostPictures};
 ghost use Rattle.rules.specs.PlanBytes.{allGood, formsIn, isPlan};
 ghost use Rattle.rules.proofs.PlanWalk.{fieldCount};
 ghost use Rattle.shape.specs.Machine.{machine, weights};
 ghost use Rattle.plan.specs.Widths.{TwoBytes, fillsBytes};
 
-const MOST_FIELDS: usize = 32;
-
 // Whether each field has the form of some accepted picture, by the judge's tables, and their positions are all that is left.
 fn all_good(next: &[u8; 272], weight: &[u32; 16], bytes: &[u8], count: usize) -> bool
-    requires { ⌜ (count ≡ fieldCount (now bytes)) × (count ≤ 32) × (3 * count + 3 ≤ length (now bytes)) × (now next ≡ machine) × (now weight ≡ weights) ⌝ }
+    requires { ⌜ (count ≡ fieldCount (now bytes)) × (count ≤ mostPictures) × (3 * count + 3 ≤ length (now bytes)) × (now next ≡ machine) × (now weight ≡ weights) ⌝ }
     ensures { λ r. ⌜ r ≡ (fillsBytes (now (bytes .entry)) && allGood (formsIn (now (bytes .entry)))) ⌝ }
 {
     let mut at = 3 * count + 3;
@@ -56,7 +56,7 @@ pub fn is_plan(bytes: &[u8]) -> bool
     if count < 1 {
         return false;
     }
-    if MOST_FIELDS < count {
+    if MOST_PICTURES < count {
         return false;
     }
     let start = 3 * count + 3;

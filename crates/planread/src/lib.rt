@@ -4,6 +4,7 @@ mod run; // run.rt: the fields of a record, one after the other
 
 use plan::is_plan;
 use rules::Answer;
+use rules::MOST_PICTURES;
 use run::run_fields;
 ghost use mathlib.Core.Path.{_≡_};
 ghost use mathlib.Core.Bool.{true};
@@ -52,7 +53,7 @@ fn read_record(plan: &[u8], record: &[u8], row: &mut [i64]) -> Answer
     if row.len() < count {
         return refused(7, 0);
     }
-    let mut values = [0i64; 32];
+    let mut values = [0i64; MOST_PICTURES];
     let bad = run_fields(plan, record, &mut values);
     if bad != 0 {
         return refused(10, bad);

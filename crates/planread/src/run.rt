@@ -1,5 +1,6 @@
 // The fields of a record, one after the other, each by its part of the plan. What they say goes to a row of the runner's own: the
 // caller's is not touched before the last of them has been read.
+use rules::MOST_PICTURES;
 use rules::Reading;
 ghost use mathlib.Core.Path.{_≡_};
 ghost use Rattle.rules.specs.PlanBytes.{formsIn};
@@ -8,7 +9,7 @@ ghost use Rattle.planread.specs.Runs.{Due, ranFrom};
 
 // Field i has its header in the plan's bytes 1 + 3 * i to 3 + 3 * i, its positions from byte `at` on, and its characters in the record
 // from byte `from` on. Each value goes to its place; the answer is the 1-based first field that says nothing, or 0.
-pub(crate) fn run_fields(plan: &[u8], record: &[u8], values: &mut [i64; 32]) -> u8
+pub(crate) fn run_fields(plan: &[u8], record: &[u8], values: &mut [i64; MOST_PICTURES]) -> u8
     requires { ⌜ Due (now plan) (now «record») ⌝ }
     ensures { λ r. ⌜ record { bad = r; values = now (values .exit) } ≡ ranFrom 0 (now (values .entry)) (readAll (formsIn (now (plan .entry))) (now («record» .entry))) ⌝ }
 {
