@@ -1,6 +1,6 @@
 -- What a copy leaves, where the part fits and where it does not, and one turn of the loop: what is left of the part, put from here on, is
 -- the whole part put. Assumes nothing.
-use mathlib.Core.Path.{_≡_, sym, _∙_}
+use mathlib.Core.Path.{_≡_, _∙_}
 use mathlib.Core.List.{List, _++_}
 use Prim.Native.Nat.{ℕ, suc, _+_, _<_, _≤_}
 use native.Mathlib.Nat.{zero-add}
@@ -8,7 +8,8 @@ use native.Mathlib.Numerals.{add-one}
 use native.Mathlib.Omega.{arith}
 use borrow.Author.Tests.{le-leb, lt-leb}
 use lib.ListN.{length, getD, set, drop, drop-of-length-le}
-use lib.Seq.{sets, sets-eq, drop-cons}
+use lib.Seq.{sets, drop-cons}
+use Rattle.rules.proofs.Lists.{sets-front}
 use Rattle.copying.specs.Copy.{copied}
 
 module _ (part out : List ℕ) where
@@ -22,9 +23,7 @@ module _ (part out : List ℕ) where
 
   -- at the first place the part stands before what was there
   pub copied-front : length part ≤ length out → copied part 0 out ≡ part ++ drop (length part) out
-  copied-front h =
-      let e : 0 + length part ≡ length part = zero-add (length part) in
-      copied-in 0 (rw e h) ∙ rw e at (sets-eq part out 0 (rw e h))
+  copied-front h = copied-in 0 (rw zero-add h) ∙ sets-front part out h
 
 -- one byte more
 pub copy-more : (part out : List ℕ) (at k : ℕ) → k < length part → sets out (at + k) (drop k part) ≡ sets (set out (at + k) (getD part k 0)) (at + (k + 1)) (drop (k + 1) part)

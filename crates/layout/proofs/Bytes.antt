@@ -1,22 +1,21 @@
 -- A plan's bytes put into lent memory. `sets l i vs` is l with vs from i on; stores at places apart may be made in either order, so that
 -- headers and roles grow side by side. Assumes nothing.
-use Prim.Native.Nat.{ℕ, suc, _+_, _*_, _/_, _%_, _<_, _≤_}
+use Prim.Native.Nat.{ℕ, suc, _+_, _-_, _*_, _/_, _%_, _<_, _≤_}
 use mathlib.Core.Path.{_≡_, refl, sym, ap, _∙_}
 use mathlib.Core.List.{List, [], _∷_, _++_}
-use native.Mathlib.Nat.{add-zero}
-use native.Mathlib.Numerals.{add-one}
+use native.Mathlib.Nat.{sub-zero}
+use native.Mathlib.Numerals.{add-one, add-two}
 use native.Mathlib.Omega.{arith}
-use lib.ListN.{length, getD, take, drop, set, length-take, drop-of-length-le}
-use lib.Seq.{sets, set-comm, drop-cons, getD-take}
+use lib.ListN.{length, take, drop, set, length-take, length-set}
+use lib.Seq.{sets, set-comm}
 use Rattle.rules.specs.Form.{Form, size}
 use Rattle.rules.specs.Layout.{headers, positions, recordLength, planOf}
-use Rattle.layout.specs.Passes.{fieldsIn}
-
-sets-append : (xs ys l : List ℕ) (i : ℕ) → sets l i (xs ++ ys) ≡ sets (sets l i xs) (i + length xs) ys
-sets-append [] ys l i = rw add-zero
-sets-append (x ∷ xs) ys l i =
-    let e : suc i + length xs ≡ i + suc (length xs) = omega arith in
-    sets-append xs ys (set l i x) (suc i) ∙ ap (λ (n : ℕ). sets (sets (set l i x) (suc i) xs) n ys) e
+use Rattle.rules.proofs.Lists.{sets-append}
+use Rattle.rules.proofs.Plans.{length-headers}
+use Rattle.copying.specs.Copy.{copied}
+use Rattle.copying.proofs.Copies.{copied-in}
+use Rattle.form.specs.declared.Meaning.{Meaning}
+use Rattle.layout.specs.Passes.{FormFits, fieldsIn}
 
 -- a store before the place where writing begins
 set-below : (vs l : List ℕ) (i j a : ℕ) → j < i → sets (set l j a) i vs ≡ set (sets l i vs) j a
@@ -29,18 +28,14 @@ swap [] rs l h p a = refl
 swap (x ∷ hs) rs l h p a =
     swap hs rs (set l h x) (suc h) p (omega arith) ∙ ap (λ (k : List ℕ). sets k (suc h) hs) (set-below rs l p h x (omega arith))
 
--- one role more
-pub role-more : (roles plan : List ℕ) (n at k : ℕ) → k < n → n ≤ length roles
-    → sets plan (at + k) (drop k (take n roles)) ≡ sets (set plan (at + k) (getD roles k 0)) (at + (k + 1)) (drop (k + 1) (take n roles))
-role-more roles plan n at k h l =
-    let i : k < length (take n roles) = simp length-take (omega arith) in
-    let e : at + (k + 1) ≡ suc (at + k) = omega arith in
-    rw (e, add-one k, drop-cons (take n roles) k 0 i, getD-take n roles k 0 h)
-
-pub role-none : (roles : List ℕ) (n k : ℕ) → n ≤ k → drop k (take n roles) ≡ []
-role-none roles n k h =
-    let l : length (take n roles) ≤ k = simp length-take (omega arith) in
-    drop-of-length-le (take n roles) l
+-- the three stores of a form's header, and the copy of its roles
+pub form-put : (form : Meaning) (plan : List ℕ) (h at : ℕ) → FormFits form (length plan) h at → (after : List ℕ)
+    → after ≡ copied (take (form .size - 0) (drop 0 (form .roles))) at (set (set (set plan h (form .size)) (h + 1) (form .vee)) (h + 2) (form .kind))
+    → after ≡ sets (sets plan h (form .size ∷ form .vee ∷ form .kind ∷ [])) at (take (form .size) (form .roles))
+form-put form plan h at f after a =
+    let x = set (set (set plan h (form .size)) (h + 1) (form .vee)) (h + 2) (form .kind) in
+    let m : at + length (take (form .size - 0) (form .roles)) ≤ length x = simp (length-take, length-set) (omega (arith, f .roles)) in
+    rw (sub-zero, add-one h, add-two h) at (a ∙ copied-in (take (form .size - 0) (form .roles)) x at m)
 
 -- one form more
 pub form-more : (φ : Form) (φs : List Form) (plan : List ℕ) (h p : ℕ) → h + 3 + length (headers φs) ≤ p
@@ -52,11 +47,6 @@ form-more φ φs plan h p a =
     ap (λ (n : ℕ). sets (sets x n (headers φs)) p (φ .roles ++ positions φs)) e
     ∙ sets-append (φ .roles) (positions φs) (sets x (h + 3) (headers φs)) p
     ∙ ap (λ (k : List ℕ). sets k (p + size φ) (positions φs)) (swap (headers φs) (φ .roles) x (h + 3) p a)
-
-pub length-headers : (φs : List Form) → length (headers φs) ≡ 3 * length φs
-unfolding headers
-length-headers [] = refl
-length-headers (φ ∷ φs) = omega (arith, length-headers φs)
 
 -- the two counts and the forms make the plan
 pub whole-plan : (φs : List Form) (plan : List ℕ) (n w at : ℕ) → n ≡ length φs → w ≡ recordLength φs → at ≡ 3 * n + 1

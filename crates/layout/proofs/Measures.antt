@@ -12,7 +12,7 @@ use Rattle.rules.specs.Text.{heldIn, mostSymbols}
 use Rattle.rules.specs.Form.{Form, size, meaning, formOf}
 use Rattle.rules.specs.Shape.{verdict}
 use Rattle.rules.specs.Layout.{cut, mostPictures, pictures, recordLength}
-use Rattle.rules.proofs.Firsts.{first-here, first-next}
+use Rattle.rules.proofs.Firsts.{first-here, first-next, later-some}
 use Rattle.rules.proofs.Forms.{good-parts}
 use Rattle.rules.proofs.Logic.{by-test}
 use Rattle.form.specs.declared.Meaning.{Meaning}
@@ -85,21 +85,10 @@ pub record Told (ts : List (List ℕ)) (count width : ℕ) (m : Measured) : Type
   pub count-is : m .number ≡ 0 → m .count ≡ count + length ts
   pub width-is : m .number ≡ 0 → m .width ≡ width + recordLength (map meaning ts)
 
-later-some : (n : ℕ) → 1 ≤ n → later n ≡ n + 1
-later-some zero h = absurd (omega arith)
-later-some (suc n) h = omega arith
-
 bad-here : (n : ℕ) (ns : List ℕ) → (n ≡ 0 → ⊥) → badField (n ∷ ns) ≡ 1
 unfolding badField
 bad-here zero ns h = absurd (h refl)
 bad-here (suc n) ns h = refl
-
--- where no picture is bad, there is no bad field
-pub no-bad : (ns : List ℕ) → firstOf ns ≡ 0 → badField ns ≡ 0
-unfolding firstOf badField
-no-bad [] h = refl
-no-bad (zero ∷ ns) h = rw (no-bad ns h)
-no-bad (suc n ∷ ns) h = absurd (omega arith)
 
 pub told : (ts : List (List ℕ)) (count width : ℕ) → Told ts count width (measuredOf count width ts)
 unfolding measuredOf firstOf badField recordLength

@@ -9,18 +9,18 @@ use borrow.Author.Tests.{leb-true, lt-ltb, le-ltb}
 use lib.Dec.{leb, ltb}
 use lib.IntN.{pos}
 use lib.ListN.{length, length-map}
-use lib.Seq.{sets, sets-eq}
+use lib.Seq.{sets}
 use Rattle.rules.specs.Numbers.{ROOM, badField, when, firstOf}
 use Rattle.rules.specs.Form.{meaning}
 use Rattle.rules.specs.Layout.{closes, countFits, forms, mostLayout, mostPictures, pictures, planOf, recordLength, verdicts}
 use Rattle.rules.specs.Answers.{answer, answerOver, compileAnswer, compileMemory, compileNumber, numberOver}
-use Rattle.rules.proofs.Firsts.{first-here, first-next, lent-kept, refuses}
+use Rattle.rules.proofs.Firsts.{first-here, first-next, lent-kept, no-bad, refuses}
+use Rattle.rules.proofs.Lists.{sets-front}
 use Rattle.rules.proofs.Logic.{both}
-use Rattle.rules.proofs.Plans.{all-good, length-positions, plan-length, record-le}
+use Rattle.rules.proofs.Plans.{all-good, length-headers, length-positions, plan-length, record-le}
 use Rattle.layout.specs.Passes.{Fits, Settled, measuredOf}
 use Rattle.layout.specs.declared.measuring.Measured.{Measured}
-use Rattle.layout.proofs.Bytes.{length-headers}
-use Rattle.layout.proofs.Measures.{Told, told, no-bad}
+use Rattle.layout.proofs.Measures.{Told, told}
 
 forms-count : (l : List ℕ) → length (forms l) ≡ length (pictures l)
 unfolding forms
@@ -124,4 +124,4 @@ module _ (l plan : List ℕ) where
       done o after x =
           let h : length (planOf (forms l)) ≤ length plan = rw (← length-is l f m e z) o in
           rw (answer-is, room-number, le-ltb (length plan) (length (planOf (forms l))) h, length-is l f m e z)
-          (refl, x ∙ sets-eq (planOf (forms l)) plan 0 (rw zero-add h) ∙ rw zero-add)
+          (refl, x ∙ sets-front (planOf (forms l)) plan h)

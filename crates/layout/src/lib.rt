@@ -4,25 +4,13 @@ mod cutting; // cutting.rt: where a layout's pictures end, and whether their cou
 mod measuring; // measuring.rt: the first bad picture, or what the plan needs
 mod writing; // writing.rt: the plan's bytes
 
+use answer::refused;
 use cutting::count_fits;
 use measuring::measure;
 use rules::Answer;
 use writing::write;
 ghost use mathlib.Core.Path.{_≡_};
-ghost use lib.IntN.{pos};
 ghost use Rattle.rules.specs.Answers.{compileAnswer, compileMemory};
-
-// The answer of a refusal: its number, and the field that it lies in or 0.
-fn refused(number: u8, field: u8) -> Answer
-    ensures { λ r. ⌜ r ≡ record { number = number; field = field; length = 0; value = pos 0 } ⌝ }
-{
-    Answer {
-        number,
-        field,
-        length: 0,
-        value: 0,
-    }
-}
 
 // "Compiling: 11, the first bad picture, 7." On success the plan stands first in `plan`, and the length is the plan's.
 pub fn compile(layout: &[u8], plan: &mut [u8]) -> Answer
@@ -44,10 +32,5 @@ pub fn compile(layout: &[u8], plan: &mut [u8]) -> Answer
         return refused(7, 0);
     }
     write(layout, plan, count, width);
-    Answer {
-        number: 0,
-        field: 0,
-        length,
-        value: 0,
-    }
+    answer::done(length, 0)
 }

@@ -5,7 +5,7 @@ use form::form_of;
 use picture::verdict::judge;
 ghost use mathlib.Core.Path.{_≡_};
 ghost use mathlib.Core.List.{[], _∷_};
-ghost use Prim.Native.Nat.{_+_, _≤_};
+ghost use Prim.Native.Nat.{_+_};
 ghost use lib.ListN.{length, take};
 ghost use lib.Seq.{sets};
 ghost use Rattle.rules.specs.Form.{meaning};
@@ -24,30 +24,19 @@ fn form_in(text: &[u8]) -> Meaning
     form_of(picture)
 }
 
-// "Then one byte a position": the roles of one form.
-fn put_roles(form: Meaning, plan: &mut [u8], at: usize)
-    requires { ⌜ (form .size ≤ 64) × (at + form .size ≤ length (now plan)) ⌝ }
-    ensures { λ _. ⌜ now (plan .exit) ≡ sets (now (plan .entry)) at (take (form .size) (form .roles)) ⌝ }
-{
-    let roles = form.roles;
-    let size = form.size;
-    for k in 0..size {
-        plan[at + k] = roles[k];
-    }
-}
-
 // "Per field three bytes: n; the number of positions before V (n if there is no V); the kind": a form's header, then its roles.
 fn put_form(form: Meaning, plan: &mut [u8], header: usize, at: usize)
     requires { ⌜ FormFits form (length (now plan)) header at ⌝ }
     ensures { λ _. ⌜ now (plan .exit)
         ≡ sets (sets (now (plan .entry)) header (form .size ∷ form .vee ∷ form .kind ∷ [])) at (take (form .size) (form .roles)) ⌝ }
 {
+    let roles = form.roles;
     let size = form.size;
     let vee = form.vee;
     plan[header] = size as u8;
     plan[header + 1] = vee as u8;
     plan[header + 2] = form.kind;
-    put_roles(form, plan, at);
+    copying::put(&roles[0..size], plan, at);
 }
 
 // The forms of a layout's pictures: their headers from the one place on, their roles from the other.

@@ -1,36 +1,31 @@
 -- Editing by a form, at each way through it, and what its field leaves in the lent memory. Assumes nothing.
-use Prim.Native.Nat.{ℕ, suc, _+_, _^_, _<_, _≤_}
+use Prim.Native.Nat.{ℕ, _-_, _^_, _<_, _≤_}
 use mathlib.Core.Path.{_≡_, refl, sym, ap, _∙_}
-use mathlib.Core.Bool.{Bool, true, false, cond, and-false}
-use mathlib.Core.List.{List, [], _∷_, _++_, append-assoc}
-use native.Mathlib.Numerals.{add-one}
-use native.Mathlib.Omega.{arith}
-use borrow.Author.Tests.{lt-leb, lt-ltb, le-ltb, le-leb, eq-eqb, ne-eqb, eqb-true}
-use lib.Dec.{leb, ltb, eqb}
+use mathlib.Core.Bool.{and-false}
+use mathlib.Core.List.{List, [], _∷_, _++_}
+use native.Mathlib.Nat.{sub-zero}
+use borrow.Author.Tests.{lt-leb, lt-ltb, le-ltb, le-leb, eq-eqb, eqb-true}
+use lib.Dec.{ltb, eqb}
 use lib.IntN.{ℤ, pos, natAbs}
-use lib.ListN.{length, getD, take, drop, set, length-take}
-use lib.Seq.{take-suc, drop-cons, set-at, take-append-seam}
+use lib.ListN.{length, take, drop}
+use lib.Seq.{take-append-seam}
 use Rattle.rules.specs.declared.Answer.{Answer}
 use Rattle.rules.specs.Numbers.{VALUE, SIZE, ROOM, when, unless, firstOf}
 use Rattle.rules.specs.Text.{mostSymbols}
 use Rattle.rules.specs.Form.{Form, size, meaning}
 use Rattle.rules.specs.Shape.{mostDigits, digitCount, verdict}
 use Rattle.rules.specs.Edit.{inRange, tooBig, aligned, isMinus, field, edited}
-use Rattle.rules.specs.Answers.{answer, lentAfter, editNumber, editAnswer, editMemory}
+use Rattle.rules.specs.Answers.{editNumber, editAnswer, editMemory}
 use Rattle.rules.proofs.Logic.{by-test}
 use Rattle.rules.proofs.Firsts.{first-here, first-next, first-pass, first-stop, refuses, lent-kept}
 use Rattle.rules.proofs.Fields.{length-field}
+use Rattle.copying.specs.Copy.{copied}
+use Rattle.copying.proofs.Copies.{copied-front}
 use Rattle.field.specs.declared.Field.{Field}
 use Rattle.field.specs.Results.{roomOf, fieldRoom}
 use Rattle.value.specs.declared.Settled.{Settled}
 use Rattle.value.specs.Settling.{settleNumber, settledOf}
 use Rattle.picture.specs.Calls.{Narrow, formNumber, formAnswer, formMemory}
-
--- one character more
-pub copy-more : (cs d : List ℕ) (k : ℕ) → k < length cs → k < length d → set (take k cs ++ drop k d) k (getD cs k 0) ≡ take (k + 1) cs ++ drop (k + 1) d
-copy-more cs d k h l =
-    let e : length (take k cs) ≡ k = simp length-take (omega arith) in
-    rw (add-one, take-suc cs k 0 h, append-assoc, drop-cons d k 0 l, set-at (take k cs) (getD d k 0) (drop (suc k) d) (getD cs k 0) k e)
 
 module _ (φ : Form) (m : ℤ) (q : ℕ) (n : Narrow φ) (s : Settled) (e : s ≡ settledOf φ m q) where
   abbrev settling : List ℕ
@@ -87,15 +82,16 @@ module _ (φ : Form) (m : ℤ) (q : ℕ) (n : Narrow φ) (s : Settled) (e : s �
         unfolding roomOf
         count-is = ap (λ (x : Field). x .count) room-is ∙ size-is
 
-        chars-are : take (f .count) (f .chars) ≡ edited φ m q
+        chars-are : take (f .count - 0) (drop 0 (f .chars)) ≡ edited φ m q
         unfolding roomOf
-        chars-are = rw room-is (take-append-seam (edited φ m q) _)
+        chars-are = rw (room-is, sub-zero) (take-append-seam (edited φ m q) _)
 
-        pub done : size φ ≤ length out → (after : List ℕ) → after ≡ take (f .count) (f .chars) ++ drop (f .count) out
+        pub done : size φ ≤ length out → (after : List ℕ) → after ≡ copied (take (f .count - 0) (drop 0 (f .chars))) 0 out
             → (record { number = 0; field = 0; length = size φ; value = pos 0 } ≡ formAnswer φ m q out) × (after ≡ formMemory φ m q out)
         unfolding formAnswer formMemory firstOf
         done l after x =
-            rw (room-number, le-ltb (length out) (size φ) l) (refl, x ∙ rw (chars-are, count-is, size-is))
+            let h : length (edited φ m q) ≤ length out = rw size-is l in
+            rw (room-number, le-ltb (length out) (size φ) l) (refl, x ∙ rw chars-are (copied-front (edited φ m q) out h))
 
 -- By a text: the picture's own refusals first.
 module _ (t : List ℕ) (m : ℤ) (q : ℕ) (out : List ℕ) (n : ℕ) (e : n ≡ verdict t) where

@@ -1,46 +1,31 @@
 -- Reading by a form, at each way through it. Assumes nothing.
-use Prim.Native.Nat.{ℕ, _≤_}
-use mathlib.Core.Path.{_≡_, refl, sym, ap, _∙_}
-use mathlib.Core.Bool.{true, false}
+use Prim.Native.Nat.{ℕ}
+use mathlib.Core.Path.{_≡_, sym, _∙_}
+use mathlib.Core.Bool.{true}
 use mathlib.Core.List.{List, [], _∷_}
-use mathlib.Core.Option.{Option, none, some}
 use native.Mathlib.Omega.{arith}
-use borrow.Author.Tests.{eq-eqb, ne-eqb, le-leb, leb-true}
-use lib.Dec.{leb, eqb}
+use borrow.Author.Tests.{eq-eqb, ne-eqb, le-leb}
+use lib.Dec.{eqb}
 use lib.IntN.{ℤ, pos}
 use lib.ListN.{length}
 use Rattle.rules.specs.declared.Answer.{Answer}
 use Rattle.rules.specs.declared.Reading.{Reading}
 use Rattle.rules.specs.declared.Reading.the-variants.{Value, Conversion}
 use Rattle.rules.specs.Numbers.{LENGTH, unless, firstOf}
-use Rattle.rules.specs.Text.{mostSymbols}
 use Rattle.rules.specs.Form.{Form, size, meaning}
-use Rattle.rules.specs.Shape.{mostDigits, digitCount, digitsFit, verdict}
-use Rattle.rules.specs.Answers.{answer, unread, said, readAnswer, ReadIs}
+use Rattle.rules.specs.Shape.{mostDigits, digitCount, verdict}
+use Rattle.rules.specs.Answers.{unread, said, readAnswer, ReadIs}
 use Rattle.rules.specs.Good.{good}
 use Rattle.rules.specs.Candidate.{readOf, readingOf}
-use Rattle.rules.proofs.Logic.{both}
 use Rattle.rules.proofs.Firsts.{first-here, first-next, refuses}
-use Rattle.rules.proofs.Forms.{good-parts}
-use Rattle.rules.proofs.Outcomes.{read-is}
+use Rattle.rules.proofs.Forms.{few-digits, good-parts}
+use Rattle.rules.proofs.Outcomes.{none-in, read-is, value-in}
 use Rattle.fieldread.specs.Results.{readIn}
 use Rattle.picture.specs.Calls.{Narrow, saidAnswer}
 
 -- an accepted picture's form is narrow
 pub narrow : (φ : Form) → good φ ≡ true → Narrow φ
-unfolding digitsFit
-narrow φ h =
-    let g = good-parts φ h in
-    record { positions = omega (arith, g .size); digits = leb-true (digitCount φ) mostDigits (both (leb 1 (digitCount φ)) _ (g .digits) .1) }
-
--- a reading and what it is made of
-value-in : (o : Option ℤ) (m : ℤ) → readingOf o ≡ Value m → o ≡ some m
-value-in none m e = let z : _≡_ {A = ℕ} 0 1 = cc in absurd (omega arith)
-value-in (some k) m e = let q : k ≡ m = cc in ap some q
-
-none-in : (o : Option ℤ) → readingOf o ≡ Conversion → o ≡ none
-none-in none e = refl
-none-in (some k) e = let z : _≡_ {A = ℕ} 0 1 = cc in absurd (omega arith)
+narrow φ h = record { positions = omega (arith, good-parts φ h .size); digits = few-digits φ h }
 
 module _ (φ : Form) (f : List ℕ) where
   pub other-length : (length f ≡ size φ → ⊥) → record { number = 9; field = 0; length = 0; value = pos 0 } ≡ saidAnswer φ f

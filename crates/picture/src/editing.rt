@@ -1,31 +1,15 @@
 // A value as the field of a picture. The field is built in a room of its own and copied out once every refusal is settled.
-use super::refused;
-use field::Field;
+use answer::refused;
 use form::form_of;
 use rules::Answer;
 use rules::Picture;
 use value::settle;
 ghost use mathlib.Core.Path.{_≡_};
 ghost use mathlib.Core.Bool.{true};
-ghost use mathlib.Core.List.{_++_};
-ghost use Prim.Native.Nat.{_≤_};
-ghost use lib.ListN.{length, take, drop};
 ghost use Rattle.rules.specs.Text.{heldIn};
 ghost use Rattle.rules.specs.Form.{formed, formOf};
 ghost use Rattle.rules.specs.Good.{good};
 ghost use Rattle.picture.specs.Calls.{Narrow, formAnswer, formMemory};
-
-// The characters of the field into the first bytes of `out`.
-fn copy_out(field: Field, out: &mut [u8])
-    requires { ⌜ (field .count ≤ 64) × (field .count ≤ length (now out)) ⌝ }
-    ensures { λ _. ⌜ now (out .exit) ≡ take (field .count) (field .chars) ++ drop (field .count) (now (out .entry)) ⌝ }
-{
-    let chars = field.chars;
-    let count = field.count;
-    for k in 0..count {
-        out[k] = chars[k];
-    }
-}
 
 // By a form: VALUE, SIZE, ROOM.
 fn edit_form(roles: &[u8], vee: usize, kind: u8, m: i64, q: usize, out: &mut [u8]) -> Answer
@@ -36,19 +20,16 @@ fn edit_form(roles: &[u8], vee: usize, kind: u8, m: i64, q: usize, out: &mut [u8
     let settled = settle(roles, vee, kind, m, q);
     let number = settled.number;
     if number != 0 {
-        return refused(number);
+        return refused(number, 0);
     }
     if out.len() < roles.len() {
-        return refused(7);
+        return refused(7, 0);
     }
     let field = field::edit(roles, vee, kind, settled.negative, settled.t);
-    copy_out(field, out);
-    Answer {
-        number: 0,
-        field: 0,
-        length: roles.len(),
-        value: 0,
-    }
+    let chars = field.chars;
+    let count = field.count;
+    copying::put(&chars[0..count], out, 0);
+    answer::done(roles.len(), 0)
 }
 
 // By an accepted picture.

@@ -4,25 +4,13 @@ mod editing; // editing.rt: a value as the field of a picture
 mod reading; // reading.rt: the value that a picture's field says
 pub mod verdict; // verdict.rt: the refusals of a picture text, in 01's order
 
+use answer::refused;
 use editing::edit_picture;
 use reading::read_picture;
 use rules::Answer;
 use verdict::judge;
 ghost use mathlib.Core.Path.{_≡_};
-ghost use lib.IntN.{pos};
 ghost use Rattle.rules.specs.Answers.{checkAnswer, editAnswer, editMemory, ReadIs};
-
-// The answer of a refusal: its number and nothing else.
-pub(crate) fn refused(number: u8) -> Answer
-    ensures { λ r. ⌜ r ≡ record { number = number; field = 0; length = 0; value = pos 0 } ⌝ }
-{
-    Answer {
-        number,
-        field: 0,
-        length: 0,
-        value: 0,
-    }
-}
 
 // Whether the text is a picture; on success its length n.
 pub fn check(text: &[u8]) -> Answer
@@ -31,16 +19,11 @@ pub fn check(text: &[u8]) -> Answer
     let judged = judge(text);
     let number = judged.number;
     if number != 0 {
-        return refused(number);
+        return refused(number, 0);
     }
     let picture = judged.picture;
     let form = form::form_of(picture);
-    Answer {
-        number: 0,
-        field: 0,
-        length: form.size,
-        value: 0,
-    }
+    answer::done(form.size, 0)
 }
 
 // M at scale q as the field of the picture, in the first n bytes of `out`; on success length n. The scale is judged before it
@@ -52,10 +35,10 @@ pub fn edit(text: &[u8], m: i64, q: u64, out: &mut [u8]) -> Answer
     let judged = judge(text);
     let number = judged.number;
     if number != 0 {
-        return refused(number);
+        return refused(number, 0);
     }
     if 15 < q {
-        return refused(6);
+        return refused(6, 0);
     }
     let picture = judged.picture;
     edit_picture(picture, m, q as usize, out)
@@ -68,7 +51,7 @@ pub fn read(text: &[u8], field: &[u8]) -> Answer
     let judged = judge(text);
     let number = judged.number;
     if number != 0 {
-        return refused(number);
+        return refused(number, 0);
     }
     let picture = judged.picture;
     read_picture(picture, field)

@@ -1,5 +1,5 @@
 // The value that a picture's field says.
-use super::refused;
+use answer::refused;
 use form::form_of;
 use rules::Answer;
 use rules::Picture;
@@ -17,17 +17,12 @@ fn read_form(roles: &[u8], vee: usize, kind: u8, field: &[u8]) -> Answer
     ensures { λ r. ⌜ r ≡ saidAnswer (formed (now (roles .entry)) vee kind) (now (field .entry)) ⌝ }
 {
     if field.len() != roles.len() {
-        return refused(9);
+        return refused(9, 0);
     }
     let reading = fieldread::read(roles, vee, kind, field);
     match reading {
-        Reading::Value(m) => Answer {
-            number: 0,
-            field: 0,
-            length: 1,
-            value: m,
-        },
-        Reading::Conversion => refused(10),
+        Reading::Value(m) => answer::done(1, m),
+        Reading::Conversion => refused(10, 0),
     }
 }
 

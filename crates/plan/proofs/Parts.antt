@@ -15,7 +15,7 @@ use Rattle.rules.proofs.Logic.{both}
 use Rattle.rules.proofs.Forms.{good-parts}
 use Rattle.rules.proofs.PlanWalk.{PlanParts, fieldCount, widthAt, formAt, formsAt, walk-start, walk-step}
 use Rattle.plan.specs.Widths.{widthsAt}
-use Rattle.plan.proofs.Sums.{plan-widths, widths-end, widths-step}
+use Rattle.plan.proofs.Sums.{plan-widths, widths-step}
 
 -- a part that stands within the bytes is as long as its n
 pub part-length : (b : List ℕ) (at n : ℕ) → at + n ≤ length b → length (take n (drop at b)) ≡ n
@@ -42,10 +42,6 @@ walking-start b p =
       fine = rw (← e) (p .good);
       span = omega (arith, plan-widths b p, p .size);
     }
-
--- behind the last field no byte is left
-pub walking-end : (b : List ℕ) (i at : ℕ) → Walking b i at → fieldCount b ≤ i → at ≡ length b
-walking-end b i at w l = omega (arith, widths-end b i l, w .span)
 
 module _ (b : List ℕ) (i at : ℕ) (w : Walking b i at) (l : i < fieldCount b) where
   pub walking-within : at + widthAt b i ≤ length b

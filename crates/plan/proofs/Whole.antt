@@ -8,14 +8,14 @@ use native.Mathlib.Nat.{sub-zero, mod-lt, div-add-mod'}
 use native.Mathlib.Omega.{arith}
 use borrow.Author.Tests.{eqb-true, eqb-false, le-leb}
 use lib.Dec.{eqb}
-use lib.ListN.{length, getD, take, drop, length-append, length-take, length-drop, take-append-drop}
+use lib.ListN.{length, getD, take, drop, length-take, length-drop, take-append-drop}
 use lib.Seq.{drop-cons, drop-drop, getD-append-add, take-add, take-all}
 use Rattle.rules.specs.Form.{Form}
 use Rattle.rules.specs.Layout.{headers, mostPictures, planOf, positions, recordLength}
 use Rattle.rules.specs.PlanBytes.{allGood, formsFrom, formsIn, isPlan}
 use Rattle.rules.proofs.Lists.{eq-same}
 use Rattle.rules.proofs.Logic.{by-test}
-use Rattle.rules.proofs.Plans.{length-positions, plan-length}
+use Rattle.rules.proofs.Plans.{length-headers, length-positions}
 use Rattle.rules.proofs.PlanWalk.{PlanParts, count-forms-in, fieldCount, forms-count, plan-parts}
 use Rattle.plan.specs.Widths.{TwoBytes, fillsBytes, widths, widthsAt}
 use Rattle.plan.proofs.Sums.{plan-widths}
@@ -94,7 +94,7 @@ gives-again b a =
 two-bytes : (φs : List Form) → recordLength φs ≡ getD (planOf φs) (3 * length φs + 1) 0 * 256 + getD (planOf φs) (3 * length φs + 1 + 1) 0
 unfolding planOf
 two-bytes φs =
-    let n : length (headers φs) ≡ 3 * length φs = omega (arith, simp length-append at (plan-length φs), length-positions φs) in
+    let n = length-headers φs in
     let r = recordLength φs in
     let h = length φs ∷ headers φs in
     let ys = r / 256 ∷ r % 256 ∷ positions φs in

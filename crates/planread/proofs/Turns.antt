@@ -1,45 +1,26 @@
 -- Reading field after field: what one turn finds and what it leaves. A field's form and its characters are the parts of the plan and of the
 -- record that the turn lends; what the fields from here on say, put behind what is there, is the whole. Assumes nothing.
 use Prim.Native.Nat.{ℕ, _+_, _-_, _*_, _<_, _≤_}
-use mathlib.Core.Path.{_≡_, refl, sym, ap, _∙_}
-use mathlib.Core.Bool.{true}
+use mathlib.Core.Path.{_≡_, sym, ap, _∙_}
 use mathlib.Core.List.{List}
-use mathlib.Core.Option.{Option, none, some}
+use mathlib.Core.Option.{none, some}
 use native.Mathlib.Omega.{arith}
-use borrow.Author.Tests.{leb-true}
-use lib.Dec.{leb}
 use lib.IntN.{ℤ}
 use lib.ListN.{length, getD, take, drop, set, length-take, length-drop}
 use lib.Seq.{drop-drop}
 use Rattle.rules.specs.declared.Reading.{Reading}
 use Rattle.rules.specs.declared.Reading.the-variants.{Value, Conversion}
-use Rattle.rules.specs.Form.{Form, formed, size}
-use Rattle.rules.specs.Shape.{digitCount, digitsFit, mostDigits}
+use Rattle.rules.specs.Form.{formed, size}
 use Rattle.rules.specs.Layout.{recordLength}
-use Rattle.rules.specs.Good.{good}
 use Rattle.rules.specs.PlanBytes.{formsIn}
 use Rattle.rules.specs.Candidate.{readAll, readOf, readingOf}
-use Rattle.rules.proofs.Forms.{good-parts}
-use Rattle.rules.proofs.Logic.{both}
+use Rattle.rules.proofs.Forms.{few-digits}
+use Rattle.rules.proofs.Outcomes.{none-in, value-in}
 use Rattle.rules.proofs.PlanWalk.{fieldCount, formAt, formsAt, plan-parts, walk-end, walk-start, walk-step, widthAt}
 use Rattle.fieldread.specs.Results.{readIn}
 use Rattle.fieldread.proofs.Cases.{read-in}
-use Rattle.plan.proofs.Parts.{Walking, walking-good, walking-length, walking-start, walking-step, walking-within}
+use Rattle.plan.proofs.Parts.{Walking, part-form, walking-good, walking-length, walking-start, walking-step, walking-within}
 use Rattle.planread.specs.Runs.{Due, ranFrom}
-
--- a reading and what it is made of
-value-in : (o : Option ℤ) (m : ℤ) → readingOf o ≡ Value m → o ≡ some m
-value-in none m e = let z : _≡_ {A = ℕ} 0 1 = cc in absurd (omega arith)
-value-in (some k) m e = let q : k ≡ m = cc in ap some q
-
-none-in : (o : Option ℤ) → readingOf o ≡ Conversion → o ≡ none
-none-in none e = refl
-none-in (some k) e = let z : _≡_ {A = ℕ} 0 1 = cc in absurd (omega arith)
-
--- a good form has no more digits than a field is read with
-few-digits : (φ : Form) → good φ ≡ true → digitCount φ ≤ mostDigits
-unfolding digitsFit
-few-digits φ h = leb-true (digitCount φ) mostDigits (both (leb 1 (digitCount φ)) _ (good-parts φ h .digits) .1)
 
 -- Before field i, whose positions start at byte `at` of the plan and whose characters start at byte `from` of the record: the walk over the
 -- plan stands there, the fields that are left fill the record, and with what they say the values are those of the whole, which began with `first`.
@@ -77,9 +58,8 @@ module _ (b rec : List ℕ) (first : List ℤ) (d : Due b rec) where
 
         reading-is : r ≡ readingOf (readOf (formAt b i at) (take (widthAt b i) (drop from rec)))
         reading-is =
-            let x : at + widthAt b i - at ≡ widthAt b i = omega arith in
-            let y : from + widthAt b i - from ≡ widthAt b i = omega arith in
-            rw (x, y) at e ∙ read-in (formAt b i at) (few-digits _ (walking-good b i at (o .walk) l)) _ field-length
+            let x : from + widthAt b i - from ≡ widthAt b i = omega arith in
+            rw (part-form b i at, x) at e ∙ read-in (formAt b i at) (few-digits _ (walking-good b i at (o .walk) l)) _ field-length
 
         -- CONVERSION here
         pub stops : r ≡ Conversion → record { bad = i + 1; values = values } ≡ ranFrom 0 first (readAll (formsIn b) rec)

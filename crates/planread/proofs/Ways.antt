@@ -1,9 +1,9 @@
 -- Reading a record by a plan, at each way through it: the refusals in 01's order, and the row. The run over the fields tells all that the
 -- answer asks of them: where it stopped the first number is CONVERSION, and where it came to the end its values are the row. Assumes nothing.
-use Prim.Native.Nat.{ℕ, zero, suc, _+_, _-_, _*_, _<_, _≤_}
+use Prim.Native.Nat.{ℕ, suc, _+_, _-_, _*_, _<_, _≤_}
 use mathlib.Core.Path.{_≡_, refl, sym, ap, _∙_}
 use mathlib.Core.Bool.{true, false, true≢false}
-use mathlib.Core.List.{List, [], _∷_, _++_, append-assoc, append-nil, map}
+use mathlib.Core.List.{List, [], _∷_, _++_, append-assoc, append-nil}
 use mathlib.Core.Option.{Option, none, some}
 use native.Mathlib.Numerals.{add-one}
 use native.Mathlib.Nat.{add-zero, zero-add}
@@ -14,12 +14,13 @@ use lib.IntN.{ℤ, pos}
 use lib.ListN.{length, getD, take, drop, set, length-take, length-set, length-map}
 use lib.Seq.{take-suc, take-suc-set, drop-cons, set-at}
 use Rattle.rules.specs.declared.Answer.{Answer}
-use Rattle.rules.specs.Numbers.{badField, firstOf, later}
+use Rattle.rules.specs.Numbers.{badField, firstOf}
 use Rattle.rules.specs.Form.{Form, size}
 use Rattle.rules.specs.Layout.{mostPictures, recordLength}
-use Rattle.rules.specs.Answers.{PlanReadIs, RecordIs, answerOver, notPlan, numberOver, readBefore, recordAnswer, rowAfter, said, unread}
+use Rattle.rules.specs.Answers.{PlanReadIs, RecordIs, answerOver, notPlan, numberOver, readBefore, recordAnswer, amounts, rowAfter, unsaid}
 use Rattle.rules.specs.PlanBytes.{formsIn, isPlan}
 use Rattle.rules.specs.Candidate.{readAll}
+use Rattle.rules.proofs.Firsts.{later-some}
 use Rattle.rules.proofs.Outcomes.{by-plan, record-is}
 use Rattle.rules.proofs.PlanWalk.{count-forms-in, fieldCount, plan-parts}
 use Rattle.planread.specs.Runs.{Due, Ran, planAnswer, planRow, ranFrom}
@@ -32,13 +33,9 @@ copy-more vs d k h l =
 
 -- A run from field i on that stopped: the first number is CONVERSION, and the field is the first bad one.
 pub record Stopped (i bad : ℕ) (os : List (Option ℤ)) : Type 0 where
-  pub number : firstOf (map unread os) ≡ 10
-  pub some : 1 ≤ badField (map unread os)
-  pub field : i + badField (map unread os) ≡ bad
-
-later-is : (k : ℕ) → 1 ≤ k → later k ≡ k + 1
-later-is zero h = absurd (omega arith)
-later-is (suc k) h = rw add-one
+  pub number : firstOf (unsaid os) ≡ 10
+  pub some : 1 ≤ badField (unsaid os)
+  pub field : i + badField (unsaid os) ≡ bad
 
 stopped : (i : ℕ) (vs : List ℤ) (os : List (Option ℤ)) → (ranFrom i vs os .bad ≡ 0 → ⊥) → Stopped i (ranFrom i vs os .bad) os
 unfolding ranFrom firstOf badField
@@ -46,18 +43,18 @@ stopped i vs [] h = absurd (h refl)
 stopped i vs (none ∷ os) h = record { number = refl; some = omega arith; field = refl }
 stopped i vs (some m ∷ os) h =
     let s = stopped (i + 1) (set vs i m) os h in
-    let e = later-is (badField (map unread os)) (s .some) in
+    let e = later-some (badField (unsaid os)) (s .some) in
     record { number = s .number; some = omega arith; field = rw e (omega (arith, s .field)) }
 
 -- A run to the end: no field is bad, and the values are what the fields say.
-ran-number : (i : ℕ) (vs : List ℤ) (os : List (Option ℤ)) → ranFrom i vs os .bad ≡ 0 → firstOf (map unread os) ≡ 0
+ran-number : (i : ℕ) (vs : List ℤ) (os : List (Option ℤ)) → ranFrom i vs os .bad ≡ 0 → firstOf (unsaid os) ≡ 0
 unfolding ranFrom firstOf
 ran-number i vs [] h = refl
 ran-number i vs (none ∷ os) h = absurd (omega arith)
 ran-number i vs (some m ∷ os) h = ran-number (i + 1) (set vs i m) os h
 
 ran-values : (i : ℕ) (vs : List ℤ) (os : List (Option ℤ)) → i + length os ≤ length vs → ranFrom i vs os .bad ≡ 0
-    → take (i + length os) (ranFrom i vs os .values) ≡ take i vs ++ map said os
+    → take (i + length os) (ranFrom i vs os .values) ≡ take i vs ++ amounts os
 unfolding ranFrom
 ran-values i vs [] l h = rw (add-zero, append-nil)
 ran-values i vs (none ∷ os) l h = absurd (omega arith)
@@ -73,7 +70,7 @@ ran-length i vs [] = refl
 ran-length i vs (none ∷ os) = refl
 ran-length i vs (some m ∷ os) = ran-length (i + 1) (set vs i m) os ∙ length-set vs i m
 
-ran-all : (vs : List ℤ) (os : List (Option ℤ)) → length os ≤ length vs → ranFrom 0 vs os .bad ≡ 0 → take (length os) (ranFrom 0 vs os .values) ≡ map said os
+ran-all : (vs : List ℤ) (os : List (Option ℤ)) → length os ≤ length vs → ranFrom 0 vs os .bad ≡ 0 → take (length os) (ranFrom 0 vs os .values) ≡ amounts os
 ran-all vs os l h = rw zero-add at (ran-values 0 vs os (omega arith) h)
 
 length-all : (φs : List Form) (rec : List ℕ) → length (readAll φs rec) ≡ length φs
@@ -109,7 +106,7 @@ module _ (b rec : List ℕ) (row : List ℤ) (h : isPlan b ≡ true) where
       says-nothing n =
           let m = rw q at n in
           let s = stopped 0 _ (readAll (formsIn b) rec) m in
-          let f : badField (map unread (readAll (formsIn b) rec)) ≡ r .bad = rw q (omega (arith, s .field)) in
+          let f : badField (unsaid (readAll (formsIn b) rec)) ≡ r .bad = rw q (omega (arith, s .field)) in
           rw (long-enough, count-forms-in b, le-ltb (length row) (fieldCount b) l, s .number, f) (refl, refl)
 
       pub reads : r .bad ≡ 0 → (after : List ℤ) → after ≡ take (fieldCount b) (r .values) ++ drop (fieldCount b) row
@@ -119,7 +116,7 @@ module _ (b rec : List ℕ) (row : List ℤ) (h : isPlan b ≡ true) where
           let os = readAll (formsIn b) rec in
           let c : length os ≡ fieldCount b = length-all (formsIn b) rec ∙ count-forms-in b in
           let m = rw q at z in
-          let said-are : take (fieldCount b) (r .values) ≡ map said os = rw (q, ← c) (ran-all vs os (omega (arith, plan-parts b h .few)) m) in
+          let said-are : take (fieldCount b) (r .values) ≡ amounts os = rw (q, ← c) (ran-all vs os (omega (arith, plan-parts b h .few)) m) in
           rw (long-enough, count-forms-in b, le-ltb (length row) (fieldCount b) l, ran-number 0 _ os m, length-map, c) (refl, a ∙ rw said-are)
 
 -- By any bytes: they are refused, or the outcome is that of the layouts which have them as their plan.

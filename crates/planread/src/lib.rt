@@ -2,6 +2,7 @@
 // own checking.
 mod run; // run.rt: the fields of a record, one after the other
 
+use answer::refused;
 use plan::is_plan;
 use rules::Answer;
 use rules::MOST_PICTURES;
@@ -10,23 +11,10 @@ ghost use mathlib.Core.Path.{_≡_};
 ghost use mathlib.Core.Bool.{true};
 ghost use mathlib.Core.List.{_++_};
 ghost use Prim.Native.Nat.{_≤_};
-ghost use lib.IntN.{pos};
 ghost use lib.ListN.{length, take, drop};
 ghost use Rattle.rules.specs.Answers.{PlanReadIs};
 ghost use Rattle.rules.specs.PlanBytes.{isPlan};
 ghost use Rattle.planread.specs.Runs.{planAnswer, planRow};
-
-// The answer of a refusal: its number and, where 01 gives one, the field it lies in.
-fn refused(number: u8, field: u8) -> Answer
-    ensures { λ r. ⌜ r ≡ record { number = number; field = field; length = 0; value = pos 0 } ⌝ }
-{
-    Answer {
-        number,
-        field,
-        length: 0,
-        value: 0,
-    }
-}
 
 // The first `count` values into the first places of the row.
 fn copy_row(values: &[i64], count: usize, row: &mut [i64])
@@ -59,12 +47,7 @@ fn read_record(plan: &[u8], record: &[u8], row: &mut [i64]) -> Answer
         return refused(10, bad);
     }
     copy_row(&values, count, row);
-    Answer {
-        number: 0,
-        field: 0,
-        length: count,
-        value: 0,
-    }
+    answer::done(count, 0)
 }
 
 // The values that the record's fields say under the plan, one a field in the row's first places; on success length the number of

@@ -3,10 +3,10 @@
 use mathlib.Core.Path.{_≡_, refl}
 use mathlib.Core.Bool.{Bool, true, false}
 use mathlib.Core.List.{List, [], _∷_, _++_}
-use Prim.Native.Nat.{ℕ, zero, suc}
+use Prim.Native.Nat.{ℕ, zero, suc, _+_, _≤_}
 use native.Mathlib.Omega.{arith}
 use lib.IntN.{ℤ, pos}
-use Rattle.rules.specs.Numbers.{firstOf, unless}
+use Rattle.rules.specs.Numbers.{badField, firstOf, later, unless}
 use Rattle.rules.specs.Edit.{field}
 use Rattle.rules.specs.Answers.{answer, lentAfter}
 
@@ -41,6 +41,17 @@ unfolding firstOf
 first-stop [] ns h = absurd (h refl)
 first-stop (zero ∷ ms) ns h = first-stop ms ns h
 first-stop (suc m ∷ ms) ns h = refl
+
+-- the first bad field is counted on behind a field that is well, and there is none where no field is bad
+pub later-some : (k : ℕ) → 1 ≤ k → later k ≡ k + 1
+later-some zero h = absurd (omega arith)
+later-some (suc k) h = omega arith
+
+pub no-bad : (ns : List ℕ) → firstOf ns ≡ 0 → badField ns ≡ 0
+unfolding firstOf badField
+no-bad [] h = refl
+no-bad (zero ∷ ns) h = rw (no-bad ns h)
+no-bad (suc n ∷ ns) h = absurd (omega arith)
 
 pub refuses : (n field length : ℕ) (value : ℤ) → (n ≡ 0 → ⊥) → record { number = n; field = field; length = 0; value = pos 0 } ≡ answer n field length value
 refuses zero field length value h = absurd (h refl)

@@ -14,7 +14,7 @@ use Rattle.rules.specs.Numbers.{firstOf}
 use Rattle.rules.specs.Text.{expand, isSome, mostSymbols, mostText, orNone, symbolsOf, textFits, theV}
 use Rattle.rules.specs.Roles.{driftsSign, isDigit, isSign, isSuppressible, lastKind}
 use Rattle.rules.specs.Form.{Form, formOf, kindOf, meaning, numbers, rolesFrom, size, suppresses}
-use Rattle.rules.specs.Shape.{digitsFit, drifting, driftsBeforeV, formShape, mostDigits, ninesLast, oneDrifts, oneSign, oneV, shape, staticsPlaced, suppressedPlaces, suppressionApart, verdict}
+use Rattle.rules.specs.Shape.{digitCount, digitsFit, drifting, driftsBeforeV, formShape, mostDigits, ninesLast, oneDrifts, oneSign, oneV, shape, staticsPlaced, suppressedPlaces, suppressionApart, verdict}
 use Rattle.rules.specs.Edit.{marks}
 use Rattle.rules.specs.Layout.{accepted}
 use Rattle.rules.specs.Good.{bears, fitsRoom, good, inOrder, marksLast, oneDollar, plainNumber, suppressing, wellMade}
@@ -273,6 +273,11 @@ pub record Means (t : List ℕ) (φ : Form) : Type 0 where
 
 pub good-means : (φ : Form) → good φ ≡ true → Means (writeBack φ) φ
 good-means φ h = let g = good-parts φ h in record { accepted = accepted-back φ g; form = meaning-back φ g }
+
+-- a good form has no more digits than a field may have
+pub few-digits : (φ : Form) → good φ ≡ true → digitCount φ ≤ mostDigits
+unfolding digitsFit
+few-digits φ h = leb-true (digitCount φ) mostDigits (both (leb 1 (digitCount φ)) _ (good-parts φ h .digits) .1)
 
 pub accepted-good : (t : List ℕ) → verdict t ≡ 0 → good (meaning t) ≡ true
 unfolding good meaning shape oneDrifts suppressionApart

@@ -1,14 +1,15 @@
 -- What stands in a list: facts found by computing over a finite list or the numbers below n, and `any`, `count`, `place` and `same` by
--- places. Assumes nothing.
+-- places, and parts written one behind the other. Assumes nothing.
 use Prim.Native.Nat.{ℕ, zero, suc, _+_, _<_, _≤_}
-use mathlib.Core.Path.{_≡_, refl, sym}
+use mathlib.Core.Path.{_≡_, refl, sym, ap, _∙_}
 use mathlib.Core.Bool.{Bool, true, false, true≢false, _&&_, or-true}
-use mathlib.Core.List.{List, [], _∷_}
-use native.Mathlib.Nat.{not-suc-le-zero, le-of-suc-le-suc}
+use mathlib.Core.List.{List, [], _∷_, _++_}
+use native.Mathlib.Nat.{add-zero, zero-add, not-suc-le-zero, le-of-suc-le-suc}
 use native.Mathlib.Omega.{arith}
 use borrow.Author.Tests.{eqb-true, eqb-false, eq-eqb}
 use lib.Dec.{eqb}
-use lib.ListN.{length, getD, take, drop}
+use lib.ListN.{length, getD, take, drop, set}
+use lib.Seq.{sets, sets-eq}
 use Rattle.rules.specs.Words.{any, count, has, place, same}
 use Rattle.rules.proofs.Logic.{both, by-test, neither}
 
@@ -65,6 +66,17 @@ has-place x [] h = absurd (true≢false (sym h))
 has-place x (y ∷ ys) h =
     by-test (eqb x y) (λ e. (rw e (omega arith), rw e (sym (eqb-true x y e))))
     (λ e. let w = has-place x ys (rw e at h) in (rw e (omega arith), rw e (w .1)))
+
+-- one part written behind the other is both written at once
+pub sets-append : (xs ys l : List ℕ) (i : ℕ) → sets l i (xs ++ ys) ≡ sets (sets l i xs) (i + length xs) ys
+sets-append [] ys l i = rw add-zero
+sets-append (x ∷ xs) ys l i =
+    let e : suc i + length xs ≡ i + suc (length xs) = omega arith in
+    sets-append xs ys (set l i x) (suc i) ∙ ap (λ (n : ℕ). sets (sets (set l i x) (suc i) xs) n ys) e
+
+-- what is written from the first place on stands before what was there
+pub sets-front : (xs l : List ℕ) → length xs ≤ length l → sets l 0 xs ≡ xs ++ drop (length xs) l
+sets-front xs l h = let e : 0 + length xs ≡ length xs = zero-add (length xs) in rw e at (sets-eq xs l 0 (rw e h))
 
 module _ (p : ℕ → Bool) where
   -- no member has p: not the one at k

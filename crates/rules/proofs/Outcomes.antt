@@ -3,8 +3,9 @@
 use mathlib.Core.Path.{_≡_, refl, sym, _∙_, ap}
 use mathlib.Core.Bool.{true, false}
 use mathlib.Core.List.{List, [], _∷_}
-use mathlib.Core.Option.{Option}
+use mathlib.Core.Option.{Option, none, some}
 use Prim.Native.Nat.{ℕ, zero, suc}
+use native.Mathlib.Omega.{arith}
 use lib.IntN.{ℤ}
 use lib.ListN.{length, take, drop}
 use Rattle.rules.specs.Words.{one}
@@ -12,11 +13,12 @@ use Rattle.rules.specs.Numbers.{firstOf}
 use Rattle.rules.specs.Form.{Form, meaning, size}
 use Rattle.rules.specs.Shape.{digitsFit, verdict}
 use Rattle.rules.specs.Layout.{HasPlan, accepted, forms, planOf}
-use Rattle.rules.specs.Answers.{ByPlan, PlanEditIs, PlanReadIs, ReadIs, RecordIs, RecordReads, RowIs, as-layout, no-plan, notPlan, readAnswer, recordAnswer, rowAfter}
+use Rattle.rules.specs.Answers.{ByPlan, PlanEditIs, PlanReadIs, ReadIs, RecordIs, RecordReads, RowIs, as-layout, no-plan, readAnswer, recordAnswer, rowAfter}
 use Rattle.rules.specs.Good.{good}
-use Rattle.rules.specs.Candidate.{readAll, readOf}
+use Rattle.rules.specs.Candidate.{readAll, readOf, readingOf}
 use Rattle.rules.specs.PlanBytes.{allGood, formsIn, isPlan}
 use Rattle.rules.specs.declared.Answer.{Answer}
+use Rattle.rules.specs.declared.Reading.the-variants.{Value, Conversion}
 use Rattle.rules.proofs.Exact.{reads-of, reads-one}
 use Rattle.rules.proofs.Forms.{accepted-good, good-parts}
 use Rattle.rules.proofs.Logic.{both, by-test}
@@ -26,6 +28,15 @@ good-digits : (φ : Form) → good φ ≡ true → digitsFit φ ≡ true
 good-digits φ h = good-parts φ h .digits
 
 -- Reading one field.
+
+-- an answer of the code, and what it says
+pub value-in : (o : Option ℤ) (m : ℤ) → readingOf o ≡ Value m → o ≡ some m
+value-in none m e = let z : _≡_ {A = ℕ} 0 1 = cc in absurd (omega arith)
+value-in (some k) m e = let q : k ≡ m = cc in ap some q
+
+pub none-in : (o : Option ℤ) → readingOf o ≡ Conversion → o ≡ none
+none-in none e = refl
+none-in (some k) e = let z : _≡_ {A = ℕ} 0 1 = cc in absurd (omega arith)
 
 -- the candidate's answer is right
 pub read-is : (t f : List ℕ) → ReadIs t f (readAnswer t f (readOf (meaning t) f))
@@ -43,6 +54,13 @@ read-one t f r s a b = a .gives ∙ at (verdict t) refl ∙ sym (b .gives)
     at (suc v) e = same-refusal t f (a .says) (b .says) v e
 
 -- Reading a record.
+
+-- a field says one thing
+pub reads-count : (φs : List Form) (rec : List ℕ) (os : List (Option ℤ)) → RecordReads φs rec os → length os ≡ length φs
+reads-count [] rec [] h = refl
+reads-count [] rec (o ∷ os) h = absurd h
+reads-count (φ ∷ φs) rec [] h = absurd h
+reads-count (φ ∷ φs) rec (o ∷ os) h = ap suc (reads-count φs _ os (h .1))
 
 pub all-read : (φs : List Form) (rec : List ℕ) → allGood φs ≡ true → RecordReads φs rec (readAll φs rec)
 unfolding allGood readAll
@@ -76,23 +94,23 @@ record-one φs rec row h r s x y a b =
 
 -- By a plan, whichever layout one takes.
 
-module _ {A : Type 0} (b : List ℕ) (lent : List A) (Right : List Form → Answer → List A → Type 0)
-    (one : (φs : List Form) → allGood φs ≡ true → (r s : Answer) (x y : List A) → Right φs r x → Right φs s y → (r ≡ s) × (x ≡ y)) where
-  pub plan-one-outcome : (r s : Answer) (x y : List A) → ByPlan b (notPlan lent r x) (λ φs. Right φs r x) → ByPlan b (notPlan lent s y) (λ φs. Right φs s y) → (r ≡ s) × (x ≡ y)
-  plan-one-outcome r s x y (no-plan n p) (no-plan m q) = (p .0 ∙ sym (q .0), p .1 ∙ sym (q .1))
-  plan-one-outcome r s x y (no-plan n p) (as-layout l h q) = absurd (n l h)
-  plan-one-outcome r s x y (as-layout l h p) (no-plan m q) = absurd (m l h)
-  plan-one-outcome r s x y (as-layout l h p) (as-layout m g q) =
-      one (forms l) (forms-good l (h .layout)) r s x y p (rw (layout-one b l m h g) q)
+-- Two outcomes by the same bytes: both are refused, or both are right for the same forms. Where either makes them the same they are the same.
+pub one-outcome : (b : List ℕ) {Refused Refused′ Same : Type 0} {Right Right′ : List Form → Type 0} → (Refused → Refused′ → Same)
+    → ((φs : List Form) → allGood φs ≡ true → Right φs → Right′ φs → Same) → ByPlan b Refused Right → ByPlan b Refused′ Right′ → Same
+one-outcome b f g (no-plan n p) (no-plan m q) = f p q
+one-outcome b f g (no-plan n p) (as-layout l h q) = absurd (n l h)
+one-outcome b f g (as-layout l h p) (no-plan m q) = absurd (m l h)
+one-outcome b f g (as-layout l h p) (as-layout m k q) = g (forms l) (forms-good l (h .layout)) p (rw (layout-one b l m h k) q)
+
+-- an answer and what it leaves, each of them said
+pub same-pair : {A B : Type 0} {a r s : A} {l x y : B} → (r ≡ a) × (x ≡ l) → (s ≡ a) × (y ≡ l) → (r ≡ s) × (x ≡ y)
+same-pair p q = (p .0 ∙ sym (q .0), p .1 ∙ sym (q .1))
 
 pub plan-read-one : (b rec : List ℕ) (row : List ℤ) (r s : Answer) (x y : List ℤ) → PlanReadIs b rec row r x → PlanReadIs b rec row s y → (r ≡ s) × (x ≡ y)
-plan-read-one b rec row = plan-one-outcome b row (λ φs r x. RecordIs φs rec row r x) (λ φs h. record-one φs rec row h)
-
-row-one : (φs : List Form) (row : List ℤ) (out : List ℕ) (r s : Answer) (x y : List ℕ) → RowIs φs row out r x → RowIs φs row out s y → (r ≡ s) × (x ≡ y)
-row-one φs row out r s x y a b = (a .gives ∙ sym (b .gives), a .leaves ∙ sym (b .leaves))
+plan-read-one b rec row r s x y = one-outcome b same-pair (λ φs h. record-one φs rec row h r s x y)
 
 pub plan-edit-one : (b : List ℕ) (row : List ℤ) (out : List ℕ) (r s : Answer) (x y : List ℕ) → PlanEditIs b row out r x → PlanEditIs b row out s y → (r ≡ s) × (x ≡ y)
-plan-edit-one b row out = plan-one-outcome b out (λ φs r x. RowIs φs row out r x) (λ φs h. row-one φs row out)
+plan-edit-one b row out r s x y = one-outcome b same-pair (λ φs h p q. same-pair (p .gives, p .leaves) (q .gives, q .leaves))
 
 -- two accepted layouts with one plan read every record and edit every row alike
 pub alike : (b l m : List ℕ) → HasPlan l b → HasPlan m b → (Right : List Form → Type 0) → Right (forms l) → Right (forms m)

@@ -33,7 +33,7 @@ forms-from [] x y = refl
 forms-from (φ ∷ φs) x y =
     rw (append-assoc (φ .roles) (positions φs) y, take-append-seam (φ .roles) (positions φs ++ y), drop-append-seam (φ .roles) (positions φs ++ y), forms-from φs x y)
 
-length-headers : (φs : List Form) → length (headers φs) ≡ 3 * length φs
+pub length-headers : (φs : List Form) → length (headers φs) ≡ 3 * length φs
 unfolding headers
 length-headers [] = refl
 length-headers (φ ∷ φs) = omega (arith, length-headers φs)

@@ -89,6 +89,17 @@ compileAnswer l plan =
 unfoldable pub compileMemory : List ℕ → List ℕ → List ℕ
 compileMemory l plan = lentAfter (compileNumber l (length plan)) (planOf (forms l)) plan
 
+-- the places that a row needs: one a field
+abbrev pub rowLength : List Form → ℕ
+rowLength φs = length φs
+
+-- the number that each field of a record gets, and the values of its row
+abbrev pub unsaid : List (Option ℤ) → List ℕ
+unsaid os = map unread os
+
+abbrev pub amounts : List (Option ℤ) → List ℤ
+amounts os = map said os
+
 -- what each field of a record says, picture by picture
 abbrev pub RecordReads : List Form → List ℕ → List (Option ℤ) → Type 0
 RecordReads [] rec [] = Unit {0}
@@ -98,13 +109,13 @@ RecordReads (φ ∷ φs) rec (o ∷ os) = ReadsAs φ (take (size φ) rec) o × R
 
 -- "Plan reading: 12, 9, 7, then the first field with 10." Behind PLAN:
 unfoldable pub readBefore : List Form → List ℕ → ℕ → ℕ
-readBefore φs rec room = firstOf (unless (eqb (length rec) (recordLength φs)) LENGTH ∷ when (ltb room (length φs)) ROOM ∷ [])
+readBefore φs rec room = firstOf (unless (eqb (length rec) (recordLength φs)) LENGTH ∷ when (ltb room (rowLength φs)) ROOM ∷ [])
 
 unfoldable pub recordAnswer : List Form → List ℕ → ℕ → List (Option ℤ) → Answer
-recordAnswer φs rec room os = answerOver (readBefore φs rec room) (map unread os) 0 (length φs)
+recordAnswer φs rec room os = answerOver (readBefore φs rec room) (unsaid os) 0 (length φs)
 
 unfoldable pub rowAfter : List Form → List ℕ → List ℤ → List (Option ℤ) → List ℤ
-rowAfter φs rec row os = lentAfter (numberOver (readBefore φs rec (length row)) (map unread os) 0) (map said os) row
+rowAfter φs rec row os = lentAfter (numberOver (readBefore φs rec (length row)) (unsaid os) 0) (amounts os) row
 
 -- the answer and the row are right for reading a record by these pictures
 pub record RecordIs (φs : List Form) (rec : List ℕ) (row : List ℤ) (r : Answer) (after : List ℤ) : Type 0 where
@@ -125,27 +136,34 @@ notPlan lent r after = (r ≡ answer PLAN 0 0 (pos 0)) × (after ≡ lent)
 abbrev pub PlanReadIs : List ℕ → List ℕ → List ℤ → Answer → List ℤ → Type 0
 PlanReadIs b rec row r after = ByPlan b (notPlan row r after) (λ φs. RecordIs φs rec row r after)
 
--- 6 before 8 within a field, each value at the field's own scale
+-- 6 before 8 within a field, the value at the field's own scale
+abbrev pub fieldNumber : Form → ℤ → ℕ
+fieldNumber φ m = firstOf (unless (inRange m (places φ)) VALUE ∷ when (tooBig φ m (places φ)) SIZE ∷ [])
+
+-- and its characters
+abbrev pub fieldOf : Form → ℤ → List ℕ
+fieldOf φ m = edited φ m (places φ)
+
+-- the number that each field's value gets
 unfoldable pub editVerdicts : List Form → List ℤ → List ℕ
 editVerdicts [] row = []
 editVerdicts (φ ∷ φs) [] = []
-editVerdicts (φ ∷ φs) (m ∷ ms) =
-    firstOf (unless (inRange m (places φ)) VALUE ∷ when (tooBig φ m (places φ)) SIZE ∷ []) ∷ editVerdicts φs ms
+editVerdicts (φ ∷ φs) (m ∷ ms) = fieldNumber φ m ∷ editVerdicts φs ms
 
 -- the fields of the row's values, one after the other
 unfoldable pub recordOf : List Form → List ℤ → List ℕ
 recordOf [] row = []
 recordOf (φ ∷ φs) [] = []
-recordOf (φ ∷ φs) (m ∷ ms) = edited φ m (places φ) ++ recordOf φs ms
+recordOf (φ ∷ φs) (m ∷ ms) = fieldOf φ m ++ recordOf φs ms
 
 -- "Plan editing: 12, 9, the first field with 6 or 8 (6 before 8), then 7." Behind PLAN:
 unfoldable pub rowNumber : List Form → List ℤ → ℕ → ℕ
 rowNumber φs row room =
-    numberOver (unless (eqb (length row) (length φs)) LENGTH) (editVerdicts φs row) (when (ltb room (recordLength φs)) ROOM)
+    numberOver (unless (eqb (length row) (rowLength φs)) LENGTH) (editVerdicts φs row) (when (ltb room (recordLength φs)) ROOM)
 
 unfoldable pub rowAnswer : List Form → List ℤ → ℕ → Answer
 rowAnswer φs row room =
-    answerOver (unless (eqb (length row) (length φs)) LENGTH) (editVerdicts φs row) (when (ltb room (recordLength φs)) ROOM) (recordLength φs)
+    answerOver (unless (eqb (length row) (rowLength φs)) LENGTH) (editVerdicts φs row) (when (ltb room (recordLength φs)) ROOM) (recordLength φs)
 
 -- the answer and the record are right for editing a row by these pictures
 pub record RowIs (φs : List Form) (row : List ℤ) (out : List ℕ) (r : Answer) (after : List ℕ) : Type 0 where

@@ -13,7 +13,7 @@ use Rattle.rules.specs.Numbers.{INPUT}
 use Rattle.rules.specs.Digits.{digitsOf}
 use Rattle.rules.specs.Form.{Form}
 use Rattle.rules.specs.Layout.{forms, recordLength, planOf}
-use Rattle.rules.specs.Answers.{answer, said, compileAnswer, RecordReads, recordAnswer}
+use Rattle.rules.specs.Answers.{answer, compileAnswer, rowLength, amounts, RecordReads, recordAnswer}
 
 abbrev pub mostInput : ℕ
 mostInput = 65536
@@ -64,7 +64,7 @@ layoutLine l = answerLine 0 (layoutAnswer l) (decimal (length (forms l)) ∷ dec
 
 -- "Then per record: its number from 1, number, field, and on success the values." `os` is what its fields say, and a row is long enough.
 unfoldable pub recordLine : List Form → ℕ → List ℕ → List (Option ℤ) → List ℕ
-recordLine φs k rec os = answerLine k (recordAnswer φs rec (length φs) os) (map (λ o. signedDecimal (said o)) os)
+recordLine φs k rec os = answerLine k (recordAnswer φs rec (rowLength φs) os) (map signedDecimal (amounts os))
 
 unfoldable pub recordLines : List Form → ℕ → List (List ℕ) → List (List (Option ℤ)) → List ℕ
 recordLines φs k [] oss = []

@@ -57,10 +57,11 @@ write-requires c κs =
 
 returns-4 : tie.Need-returns-4
 returns-4 c =
-    let d = c .before .before in
+    let d = c .before .before .before in
     let b = d .before .before .before in
     let a = b .before in
-    done _ _ (counted (a .before)) _ (a .measure .ensures) (b .if2 .left) (d .before .before .if3 .left) _ (d .write .ensures)
+    let w = done _ _ (counted (a .before)) _ (a .measure .ensures) (b .if2 .left) (d .before .before .if3 .left) _ (d .write .ensures) in
+    (c .done .ensures ∙ w .0, w .1)
 
 pub compile-spec : {M : Type 1} → statement M
-compile-spec = tie.close (tie.spec (λ c κs. search needs) (λ c κs. search needs) returns measure-requires (λ c κs. search needs) returns-2 mul-length add-length add-length-2 (λ c κs. search needs) returns-3 write-requires (λ c. search needs) returns-4)
+compile-spec = tie.close (tie.spec (λ c κs. search needs) (λ c κs. search needs) returns measure-requires (λ c κs. search needs) returns-2 mul-length add-length add-length-2 (λ c κs. search needs) returns-3 write-requires (λ c κs. search needs) (λ c. search needs) returns-4)

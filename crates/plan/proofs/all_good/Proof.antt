@@ -69,33 +69,4 @@ returns-3 c =
 
 pub all-good-spec : {M : Type 1} → statement M
 all-good-spec =
-    tie.close
-    (tie.spec
-    Inv-loop
-    μ-loop
-    (λ c. search needs)
-    (λ c. search needs)
-    loop-holds
-    (λ c. search needs)
-    (λ c. search needs)
-    (λ c. search needs)
-    cast-n
-    (λ c. search needs)
-    (λ c. search needs)
-    (λ c. search needs)
-    cast-vee
-    (λ c. search needs)
-    (λ c. search needs)
-    (λ c. search needs)
-    (λ c. search needs)
-    returns
-    (λ c. search needs)
-    (λ c. search needs)
-    (λ c. search needs)
-    (λ c. search needs)
-    (λ c κs. search needs)
-    returns-2
-    (λ c. search needs)
-    (λ c. search needs)
-    loop-again
-    returns-3)
+    tie.close (tie.spec Inv-loop μ-loop (λ c. search needs) (λ c. search needs) loop-holds (λ c. search needs) (λ c. search needs) (λ c. search needs) cast-n (λ c. search needs) (λ c. search needs) (λ c. search needs) cast-vee (λ c. search needs) (λ c. search needs) (λ c. search needs) (λ c. search needs) returns (λ c. search needs) (λ c. search needs) (λ c. search needs) (λ c. search needs) (λ c κs. search needs) returns-2 (λ c. search needs) (λ c. search needs) loop-again returns-3)

@@ -30,21 +30,4 @@ returns-6 c =
 
 pub is-plan-spec : {M : Type 1} → statement M
 is-plan-spec =
-    tie.close
-    (tie.spec
-    returns
-    (λ c. search needs)
-    cast-count
-    returns-2
-    returns-3
-    (λ c. search needs)
-    (λ c. search needs)
-    returns-4
-    (λ c. search needs)
-    (λ c κs. search needs)
-    (λ c. search needs)
-    returns-5
-    (λ c κs. search needs)
-    (λ c κs. search needs)
-    (λ c κs. search needs)
-    returns-6)
+    tie.close (tie.spec returns (λ c. search needs) cast-count returns-2 returns-3 (λ c. search needs) (λ c. search needs) returns-4 (λ c. search needs) (λ c κs. search needs) (λ c. search needs) returns-5 (λ c κs. search needs) (λ c κs. search needs) (λ c κs. search needs) returns-6)

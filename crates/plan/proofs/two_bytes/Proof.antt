@@ -31,13 +31,4 @@ returns c = record { number = refl; low = bytes c .1 }
 
 pub two-bytes-spec : {M : Type 1} → statement M
 two-bytes-spec =
-    tie.close
-    (tie.spec
-    (λ c. search needs)
-    cast-high
-    (λ c. search needs)
-    (λ c. search needs)
-    cast-low
-    mul-result
-    add-result
-    returns)
+    tie.close (tie.spec (λ c. search needs) cast-high (λ c. search needs) (λ c. search needs) cast-low mul-result add-result returns)

@@ -63,28 +63,12 @@ copy-row-requires c κs =
 
 returns-4 : tie.Need-returns-4
 returns-4 c =
-    let f = c .before .before .before .before .before in
+    let f = c .before .before .before .before .before .before in
     let e = f .before .before .before in
     let a = e .before .before .before .before in
-    reads _ _ (a .args .row .now) (a .pre) (e .if1 .left) (f .before .before .if2 .left) _ refl _ (f .run-fields .ensures) (omega arith) _ (c .before .copy-row .ensures)
+    let w = reads _ _ (a .args .row .now) (a .pre) (e .if1 .left) (f .before .before .if2 .left) _ refl _ (f .run-fields .ensures) (omega arith) _ (c .before .before .copy-row .ensures) in
+    (c .done .ensures ∙ w .0, w .1)
 
 pub read-record-spec : {M : Type 1} → statement M
 read-record-spec =
-    tie.close
-    (tie.spec
-    shared-slice-read-count
-    cast-count
-    mul-head
-    add-head
-    sub-if1
-    (λ c κs. search needs)
-    returns
-    (λ c κs. search needs)
-    returns-2
-    run-fields-requires
-    (λ c κs. search needs)
-    returns-3
-    slice-aggregate-copy-row
-    copy-row-requires
-    (λ c. search needs)
-    returns-4)
+    tie.close (tie.spec shared-slice-read-count cast-count mul-head add-head sub-if1 (λ c κs. search needs) returns (λ c κs. search needs) returns-2 run-fields-requires (λ c κs. search needs) returns-3 slice-aggregate-copy-row copy-row-requires (λ c κs. search needs) (λ c. search needs) returns-4)

@@ -35,14 +35,19 @@ counted c =
     let a = c .before .before .before in
     count-is _ _ _ (a .before .before .before .pre) _ (settled a) [] (search needs) _ (c .edit .ensures)
 
-copy-out-requires : tie.Need-copy-out-requires
-copy-out-requires c κs = let e = counted (c .before) in let n = c .before .before .before .before .before .before .before .pre .positions in omega arith
+part-put-end : tie.Need-part-put-end
+part-put-end c =
+    let a = c .before .before in
+    let l : length (a .edit .result .chars) ≡ 64 = search needs in
+    omega (arith, counted a, a .before .before .before .before .before .before .pre .positions)
 
 returns-3 : tie.Need-returns-3
 returns-3 c =
-    let d = c .before .before .before .before in
+    let p = c .before .before .before in
+    let d = p .before .before .before .before .before in
     let a = d .before .before .before in
-    done _ _ _ (a .before .before .before .pre) _ (settled a) _ (search needs) _ (d .edit .ensures) (d .before .if2 .left) _ (c .before .before .copy-out .ensures)
+    let w = done _ _ _ (a .before .before .before .pre) _ (settled a) _ (search needs) _ (d .edit .ensures) (d .before .if2 .left) _ (p .put .ensures) in
+    (c .done .ensures ∙ w .0, w .1)
 
 pub edit-form-spec : {M : Type 1} → statement M
-edit-form-spec = tie.close (tie.spec (λ c κs. search needs) (λ c κs. search needs) returns (λ c κs. search needs) returns-2 (λ c κs. search needs) copy-out-requires (λ c. search needs) returns-3)
+edit-form-spec = tie.close (tie.spec (λ c κs. search needs) (λ c κs. search needs) returns (λ c κs. search needs) returns-2 (λ c κs. search needs) (λ c. search needs) (λ c. search needs) part-put-end (λ c κs. search needs) (λ c κs. search needs) (λ c. search needs) returns-3)

@@ -83,43 +83,4 @@ returns-2 c =
 
 pub run-fields-spec : {M : Type 1} → statement M
 run-fields-spec =
-    tie.close
-    (tie.spec
-    Inv-loop
-    μ-loop
-    shared-slice-read-count
-    cast-count
-    mul-at
-    add-at
-    loop-holds
-    (λ c. search needs)
-    (λ c. search needs)
-    (λ c. search needs)
-    cast-n
-    (λ c. search needs)
-    (λ c. search needs)
-    (λ c. search needs)
-    cast-vee
-    (λ c. search needs)
-    (λ c. search needs)
-    (λ c. search needs)
-    add-end
-    add-to
-    (λ c. search needs)
-    (λ c. search needs)
-    part-read-end
-    (λ c. search needs)
-    (λ c. search needs)
-    part-read-end-2
-    (λ c κs. search needs)
-    (λ c. search needs)
-    (λ c. search needs)
-    (λ c. search needs)
-    (λ c. search needs)
-    (λ c. search needs)
-    (λ c. search needs)
-    returns
-    (λ c. search needs)
-    (λ c. search needs)
-    loop-again
-    returns-2)
+    tie.close (tie.spec Inv-loop μ-loop shared-slice-read-count cast-count mul-at add-at loop-holds (λ c. search needs) (λ c. search needs) (λ c. search needs) cast-n (λ c. search needs) (λ c. search needs) (λ c. search needs) cast-vee (λ c. search needs) (λ c. search needs) (λ c. search needs) add-end add-to (λ c. search needs) (λ c. search needs) part-read-end (λ c. search needs) (λ c. search needs) part-read-end-2 (λ c κs. search needs) (λ c. search needs) (λ c. search needs) (λ c. search needs) (λ c. search needs) (λ c. search needs) (λ c. search needs) returns (λ c. search needs) (λ c. search needs) loop-again returns-2)
