@@ -17,9 +17,8 @@ pub fn check(text: &[u8]) -> Answer
     ensures { λ r. ⌜ r ≡ checkAnswer (now (text .entry)) ⌝ }
 {
     let judged = judge(text);
-    let number = judged.number;
-    if number != 0 {
-        return refused(number, 0);
+    if judged.number != 0 {
+        return refused(judged.number, 0);
     }
     let picture = judged.picture;
     let form = form::form_of(picture);
@@ -33,9 +32,8 @@ pub fn edit(text: &[u8], m: i64, q: u64, out: &mut [u8]) -> Answer
     ensures memory { λ _. ⌜ now (out .exit) ≡ editMemory (now (text .entry)) m q (now (out .entry)) ⌝ }
 {
     let judged = judge(text);
-    let number = judged.number;
-    if number != 0 {
-        return refused(number, 0);
+    if judged.number != 0 {
+        return refused(judged.number, 0);
     }
     if 15 < q {
         return refused(6, 0);
@@ -49,9 +47,8 @@ pub fn read(text: &[u8], field: &[u8]) -> Answer
     ensures { λ r. ⌜ ReadIs (now (text .entry)) (now (field .entry)) r ⌝ }
 {
     let judged = judge(text);
-    let number = judged.number;
-    if number != 0 {
-        return refused(number, 0);
+    if judged.number != 0 {
+        return refused(judged.number, 0);
     }
     let picture = judged.picture;
     read_picture(picture, field)

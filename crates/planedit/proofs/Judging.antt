@@ -10,14 +10,14 @@ use lib.ListN.{length, getD, drop}
 use lib.Seq.{drop-cons}
 use Rattle.rules.specs.Numbers.{badField, firstOf, later}
 use Rattle.rules.specs.PlanBytes.{formsIn}
-use Rattle.rules.specs.Answers.{editVerdicts}
+use Rattle.rules.specs.Answers.{editVerdicts, fieldNumber}
 use Rattle.rules.proofs.PlanWalk.{PlanParts, fieldCount, formAt, formsAt, plan-parts, walk-end, walk-start, walk-step, widthAt}
 use Rattle.rules.specs.Shape.{places}
 use Rattle.value.specs.declared.Settled.{Settled}
 use Rattle.value.specs.Settling.{settledOf}
 use Rattle.plan.proofs.Parts.{Walking, walking-good, walking-start, walking-step, walking-within}
 use Rattle.planedit.specs.declared.Bad.{Bad}
-use Rattle.planedit.specs.Rows.{Matched, Within, bad, badOf, valueNumber}
+use Rattle.planedit.specs.Rows.{Matched, Within, bad, badOf}
 use Rattle.planedit.proofs.Values.{number-is}
 
 -- the first bad field, by the number that each field gets, the fields counted on from i
@@ -63,8 +63,8 @@ row-step row i l = rw (add-one, drop-cons row i (pos 0) l)
 
 -- the field's number, and those behind it
 pub verdicts-step : (b : List ℕ) (row : List ℤ) (i at : ℕ) → i < fieldCount b → i < length row
-    → editVerdicts (formsAt b i at) (drop i row) ≡ valueNumber (formAt b i at) (getD row i (pos 0)) ∷ editVerdicts (formsAt b (i + 1) (at + widthAt b i)) (drop (i + 1) row)
-unfolding editVerdicts valueNumber
+    → editVerdicts (formsAt b i at) (drop i row) ≡ fieldNumber (formAt b i at) (getD row i (pos 0)) ∷ editVerdicts (formsAt b (i + 1) (at + widthAt b i)) (drop (i + 1) row)
+unfolding editVerdicts
 verdicts-step b row i at l k = rw (walk-step b i at l, row-step row i k)
 
 pub record Judged (b : List ℕ) (row : List ℤ) (i at : ℕ) : Type 0 where
@@ -91,7 +91,7 @@ module _ (b : List ℕ) (row : List ℤ) (p : Matched b row) where
     within-count : i < fieldCount b
     within-count = omega (arith, p .each)
 
-    number : s .number ≡ valueNumber (formAt b i at) (getD row i (pos 0))
+    number : s .number ≡ fieldNumber (formAt b i at) (getD row i (pos 0))
     number = number-is _ _ (walking-good b i at (j .walk) within-count) s (e ∙ rw v)
 
     whole : badFrom i (s .number ∷ editVerdicts (formsAt b (i + 1) (at + widthAt b i)) (drop (i + 1) row)) ≡ badFrom 0 (editVerdicts (formsIn b) row)

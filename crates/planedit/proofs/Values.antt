@@ -3,23 +3,24 @@
 use mathlib.Core.Path.{_≡_, sym, _∙_}
 use mathlib.Core.Bool.{true}
 use mathlib.Core.List.{List}
-use borrow.Author.Tests.{eqb-true, eq-eqb, leb-true, le-ltb}
+use borrow.Author.Tests.{eqb-true, eq-eqb, le-ltb}
 use Prim.Native.Nat.{ℕ, _+_, _-_, _*_, _^_, _<_, _≤_}
 use native.Mathlib.Omega.{arith}
 use mir.Facts.{toZ-ofZ}
 use mir.Syntax.{w64}
 use mir.Val.{SFits, hbits, ofZ, toZ}
-use lib.Dec.{eqb, leb}
+use lib.Dec.{eqb}
 use lib.IntN.{ℤ, pos}
 use lib.Signed.{mag}
 use lib.ListN.{length, getD, take, drop}
 use Rattle.rules.specs.Form.{Form, formed, size}
-use Rattle.rules.specs.Shape.{digitCount, digitsFit, mostDigits, places}
+use Rattle.rules.specs.Shape.{digitCount, mostDigits, places}
 use Rattle.rules.specs.Edit.{aligned, edited, isMinus}
 use Rattle.rules.specs.Good.{good}
+use Rattle.rules.specs.Answers.{fieldNumber, fieldOf}
 use Rattle.rules.proofs.Fields.{length-field}
-use Rattle.rules.proofs.Forms.{good-parts}
-use Rattle.rules.proofs.Logic.{both, by-test}
+use Rattle.rules.proofs.Forms.{few-digits, good-parts}
+use Rattle.rules.proofs.Logic.{by-test}
 use Rattle.rules.proofs.PlanWalk.{formAt, widthAt}
 use Rattle.field.specs.declared.Field.{Field}
 use Rattle.field.specs.declared.Measured.{Measured}
@@ -27,7 +28,8 @@ use Rattle.field.specs.Results.{fieldRoom, measureOf, roomOf}
 use Rattle.field.proofs.Laws.{field-room, measure-places, room-chars, room-count}
 use Rattle.value.specs.declared.Settled.{Settled}
 use Rattle.value.specs.Settling.{settleNumber, settledOf}
-use Rattle.planedit.specs.Rows.{Fine, valueNumber}
+use Rattle.plan.proofs.Parts.{part-form}
+use Rattle.planedit.specs.Rows.{Fine}
 
 -- a value of the row, as the code hands it on, is that value
 abbrev pub Handed : List ℤ → ℕ → Type 0
@@ -36,52 +38,45 @@ Handed row i = toZ w64 (ofZ w64 (getD row i (pos 0))) ≡ getD row i (pos 0)
 pub handed : (row : List ℤ) (i : ℕ) → mag (getD row i (pos 0)) < 2 ^ hbits w64 → Handed row i
 handed row i h = let f : SFits w64 (getD row i (pos 0)) = record { sfits = h } in toZ-ofZ f
 
-pub edited-size : (φ : Form) (m : ℤ) → length (edited φ m (places φ)) ≡ size φ
+pub edited-size : (φ : Form) (m : ℤ) → length (fieldOf φ m) ≡ size φ
 unfolding edited
 edited-size φ m = length-field φ _ _
 
 module _ (φ : Form) (m : ℤ) (g : good φ ≡ true) where
-  narrow : digitCount φ ≤ mostDigits
-  unfolding digitsFit
-  narrow = leb-true (digitCount φ) mostDigits (both (leb 1 (digitCount φ)) _ (good-parts φ g .digits) .1)
-
-  settle-is : settleNumber φ m (places φ) ≡ valueNumber φ m
-  unfolding settleNumber valueNumber
-  settle-is = rw (le-ltb mostDigits (digitCount φ) narrow)
+  settle-is : settleNumber φ m (places φ) ≡ fieldNumber φ m
+  unfolding settleNumber
+  settle-is = rw (le-ltb mostDigits (digitCount φ) (few-digits φ g))
 
   module _ (s : Settled) (e : s ≡ settledOf φ m (places φ)) where
-    pub number-is : s .number ≡ valueNumber φ m
+    pub number-is : s .number ≡ fieldNumber φ m
     unfolding settledOf
     number-is = rw e (by-test (eqb (settleNumber φ m (places φ)) 0) (λ z. rw z (sym (eqb-true _ 0 z) ∙ settle-is)) (λ z. rw z settle-is))
 
     -- the sign and T are those of the value
-    made : valueNumber φ m ≡ 0 → (f : Field) → f ≡ fieldRoom φ (s .negative) (s .t) → f ≡ roomOf (edited φ m (places φ))
+    made : fieldNumber φ m ≡ 0 → (f : Field) → f ≡ fieldRoom φ (s .negative) (s .t) → f ≡ roomOf (fieldOf φ m)
     unfolding settledOf edited
     made z f q =
         let x = eq-eqb (settleNumber φ m (places φ)) 0 (settle-is ∙ z) in
         let n : s .negative ≡ isMinus φ m (places φ) = rw (e, x) in
         let t : s .t ≡ aligned φ m (places φ) = rw (e, x) in
         let l : size φ ≤ 64 = omega (arith, good-parts φ g .size) in
-        q ∙ rw (n, t) (field-room φ narrow (isMinus φ m (places φ)) (aligned φ m (places φ)) l)
+        q ∙ rw (n, t) (field-room φ (few-digits φ g) (isMinus φ m (places φ)) (aligned φ m (places φ)) l)
 
-  module _ (f : Field) (e : f ≡ roomOf (edited φ m (places φ))) where
+  module _ (f : Field) (e : f ≡ roomOf (fieldOf φ m)) where
     pub made-count : f .count ≡ size φ
-    made-count = rw e (room-count (edited φ m (places φ)) ∙ edited-size φ m)
+    made-count = rw e (room-count (fieldOf φ m) ∙ edited-size φ m)
 
-    pub made-chars : take (f .count) (f .chars) ≡ edited φ m (places φ)
-    made-chars = rw e (room-chars (edited φ m (places φ)))
+    pub made-chars : take (f .count) (f .chars) ≡ fieldOf φ m
+    made-chars = rw e (room-chars (fieldOf φ m))
 
 -- The part that is lent, up to the field's end, has the roles of the field's form.
 module _ (b : List ℕ) (i at : ℕ) where
   abbrev lentForm : Form
   lentForm = formed (take (at + widthAt b i - at) (drop at b)) (getD b (2 + 3 * i) 0) (getD b (3 + 3 * i) 0)
 
-  lent-form : lentForm ≡ formAt b i at
-  lent-form = let e : at + widthAt b i - at ≡ widthAt b i = omega arith in rw e
-
   pub lent-settled : (m z : ℤ) → z ≡ m → (w : Measured) → w ≡ measureOf lentForm → (s : Settled) → s ≡ settledOf lentForm z (w .places) → s ≡ settledOf (formAt b i at) m (places (formAt b i at))
-  lent-settled m z e w d s q = q ∙ rw (e, d, measure-places lentForm, lent-form)
+  lent-settled m z e w d s q = q ∙ rw (e, d, measure-places lentForm, part-form b i at)
 
   pub lent-made : (m z : ℤ) → z ≡ m → Fine b i at m → (s : Settled) → s ≡ settledOf (formAt b i at) z (places (formAt b i at)) → (f : Field) → f ≡ fieldRoom lentForm (s .negative) (s .t)
-      → f ≡ roomOf (edited (formAt b i at) m (places (formAt b i at)))
-  lent-made m z e p s d f q = made (formAt b i at) m (p .form) s (d ∙ rw e) (p .takes) f (q ∙ rw lent-form)
+      → f ≡ roomOf (fieldOf (formAt b i at) m)
+  lent-made m z e p s d f q = made (formAt b i at) m (p .form) s (d ∙ rw e) (p .takes) f (q ∙ rw (part-form b i at))

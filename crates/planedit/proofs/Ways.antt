@@ -3,7 +3,7 @@ use mathlib.Core.Path.{_≡_, refl, sym, _∙_}
 use mathlib.Core.Bool.{Bool, true, false, not, true≢false}
 use mathlib.Core.List.{List, [], _∷_, _++_}
 use borrow.Author.Tests.{eq-eqb, ne-eqb, lt-ltb, le-ltb, not-true, not-false}
-use Prim.Native.Nat.{ℕ, zero, suc, _+_, _-_, _*_, _<_, _≤_}
+use Prim.Native.Nat.{ℕ, _+_, _-_, _*_, _<_, _≤_}
 use native.Mathlib.Omega.{arith}
 use lib.Dec.{ltb}
 use lib.IntN.{ℤ, pos}
@@ -14,7 +14,7 @@ use Rattle.rules.specs.Form.{Form}
 use Rattle.rules.specs.Layout.{recordLength}
 use Rattle.rules.specs.PlanBytes.{formsIn, isPlan}
 use Rattle.rules.specs.Answers.{PlanEditIs, RowIs, answer, answerOver, editVerdicts, numberOver, recordOf, rowAnswer, rowNumber}
-use Rattle.rules.proofs.Firsts.{first-here, first-next, lent-kept, refuses}
+use Rattle.rules.proofs.Firsts.{first-here, first-next, lent-kept, no-bad, refuses}
 use Rattle.rules.proofs.Outcomes.{by-plan}
 use Rattle.rules.proofs.PlanWalk.{count-forms-in, fieldCount, plan-parts}
 use Rattle.planedit.specs.declared.Bad.{Bad}
@@ -22,13 +22,6 @@ use Rattle.planedit.specs.Rows.{Ready, badOf}
 
 abbrev refusal : ℕ → ℕ → Answer
 refusal number field = record { number = number; field = field; length = 0; value = pos 0 }
-
--- no field is bad
-none-bad : (ns : List ℕ) → firstOf ns ≡ 0 → badField ns ≡ 0
-unfolding firstOf badField
-none-bad [] h = refl
-none-bad (zero ∷ ns) h = rw (none-bad ns h)
-none-bad (suc n ∷ ns) h = absurd (omega arith)
 
 module _ (φs : List Form) (row : List ℤ) (out : List ℕ) where
   other-length : (length row ≡ length φs → ⊥) → RowIs φs row out (refusal 9 0) out
@@ -62,7 +55,7 @@ module _ (φs : List Form) (row : List ℤ) (out : List ℕ) where
 
     module _ (z : b .number ≡ 0) where
       no-field : b .field ≡ 0
-      no-field = place ∙ none-bad (editVerdicts φs row) (sym number ∙ z)
+      no-field = place ∙ no-bad (editVerdicts φs row) (sym number ∙ z)
 
       behind : rowNumber φs row (length out) ≡ firstOf (when (ltb (length out) (recordLength φs)) ROOM ∷ [])
       behind = row-number ∙ first-next (b .number) _ z

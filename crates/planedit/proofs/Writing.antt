@@ -2,77 +2,34 @@
 use mathlib.Core.Path.{_≡_, refl, sym, _∙_}
 use mathlib.Core.Bool.{true}
 use mathlib.Core.List.{List, [], _∷_, _++_}
-use Prim.Native.Nat.{ℕ, suc, _+_, _*_, _<_, _≤_}
-use native.Mathlib.Nat.{add-zero}
-use native.Mathlib.Numerals.{add-one}
+use Prim.Native.Nat.{ℕ, _+_, _-_, _*_, _<_, _≤_}
+use native.Mathlib.Nat.{sub-zero}
 use native.Mathlib.Omega.{arith}
 use lib.IntN.{ℤ, pos}
-use lib.ListN.{length, getD, set, take, drop, length-append, length-take, drop-of-length-le}
-use lib.Seq.{drop-cons, getD-take, length-sets, sets-eq}
+use lib.ListN.{length, getD, take, drop, length-append}
+use lib.Seq.{length-sets, sets}
 use Rattle.rules.specs.Form.{Form}
-use Rattle.rules.specs.Shape.{places}
-use Rattle.rules.specs.Edit.{edited}
 use Rattle.rules.specs.Numbers.{firstOf}
 use Rattle.rules.specs.Good.{good}
 use Rattle.rules.specs.Layout.{recordLength}
 use Rattle.rules.specs.PlanBytes.{formsIn}
-use Rattle.rules.specs.Answers.{editVerdicts, recordOf}
+use Rattle.rules.specs.Answers.{editVerdicts, fieldNumber, fieldOf, recordOf}
 use Rattle.rules.proofs.Firsts.{first-zero}
+use Rattle.rules.proofs.Lists.{sets-append, sets-front}
 use Rattle.rules.proofs.PlanWalk.{PlanParts, count-forms-in, fieldCount, formAt, formsAt, walk-end, walk-start, walk-step, widthAt}
+use Rattle.copying.specs.Copy.{copied}
+use Rattle.copying.proofs.Copies.{copied-in}
 use Rattle.field.specs.declared.Field.{Field}
 use Rattle.field.specs.Results.{roomOf}
 use Rattle.plan.proofs.Parts.{Walking, walking-good, walking-length, walking-narrow, walking-start, walking-step, walking-within}
-use Rattle.planedit.specs.Rows.{Fine, Ready, valueNumber, written}
+use Rattle.planedit.specs.Rows.{Fine, Ready}
 use Rattle.planedit.proofs.Values.{edited-size, made-chars, made-count}
 use Rattle.planedit.proofs.Judging.{field-within, parts, row-step, verdicts-step}
-
--- Characters from a place on.
-pub written-none : (lent : List ℕ) (at : ℕ) → written lent at [] ≡ lent
-unfolding written
-written-none lent at = refl
-
--- one character more of a field's, which are the first of its room
-module _ (from : ℕ) (chars : List ℕ) (count : ℕ) (fits : count ≤ length chars) (lent out : List ℕ) where
-  pub copied-more : (k : ℕ) → k < count → written out (from + k) (drop k (take count chars)) ≡ written lent from (take count chars)
-      → written (set out (from + k) (getD chars k 0)) (from + (k + 1)) (drop (k + 1) (take count chars)) ≡ written lent from (take count chars)
-  unfolding written
-  copied-more k l e =
-      let q : from + (k + 1) ≡ suc (from + k) = omega arith in
-      let n : k < length (take count chars) = simp length-take (omega arith) in
-      let d : drop k (take count chars) ≡ getD chars k 0 ∷ drop (k + 1) (take count chars) = rw (add-one, drop-cons (take count chars) k 0 n, getD-take) in
-      rw q (rw d at e)
-
-  pub copied-end : (k : ℕ) → count ≤ k → written out (from + k) (drop k (take count chars)) ≡ written lent from (take count chars) → out ≡ written lent from (take count chars)
-  unfolding written
-  copied-end k l e =
-      let n : length (take count chars) ≤ k = simp length-take (omega arith) in
-      rw (drop-of-length-le (take count chars) n) at e
-
-pub copied-start : (from : ℕ) (lent cs : List ℕ) → written lent (from + 0) cs ≡ written lent from cs
-copied-start from lent cs = rw add-zero
-
-pub written-length : (lent : List ℕ) (at : ℕ) (cs : List ℕ) → length (written lent at cs) ≡ length lent
-unfolding written
-written-length lent at cs = length-sets lent at cs
-
-pub written-append : (lent : List ℕ) (at : ℕ) (cs ds : List ℕ) → written lent at (cs ++ ds) ≡ written (written lent at cs) (at + length cs) ds
-unfolding written
-written-append lent at [] ds = rw add-zero
-written-append lent at (c ∷ cs) ds =
-    let e : at + length (c ∷ cs) ≡ suc at + length cs = omega arith in
-    rw e (written-append (set lent at c) (suc at) cs ds)
-
-pub written-front : (lent cs : List ℕ) → length cs ≤ length lent → written lent 0 cs ≡ cs ++ drop (length cs) lent
-unfolding written
-written-front lent cs l =
-    let h : 0 + length cs ≤ length lent = omega arith in
-    let e : 0 + length cs ≡ length cs = omega arith in
-    sets-eq cs lent 0 h ∙ rw e
 
 -- the field, and those behind it
 record-step : (b : List ℕ) (row : List ℤ) (i at : ℕ) → i < fieldCount b → i < length row
     → recordOf (formsAt b i at) (drop i row)
-    ≡ edited (formAt b i at) (getD row i (pos 0)) (places (formAt b i at)) ++ recordOf (formsAt b (i + 1) (at + widthAt b i)) (drop (i + 1) row)
+    ≡ fieldOf (formAt b i at) (getD row i (pos 0)) ++ recordOf (formsAt b (i + 1) (at + widthAt b i)) (drop (i + 1) row)
 unfolding recordOf
 record-step b row i at l k = rw (walk-step b i at l, row-step row i k)
 
@@ -86,7 +43,7 @@ record-length (φ ∷ φs) (m ∷ ms) e = simp length-append (omega (arith, edit
 pub record Written (b : List ℕ) (row : List ℤ) (lent : List ℕ) (start i from : ℕ) (out : List ℕ) : Type 0 where
   pub walk : Walking b i (start + from)
   pub takes : firstOf (editVerdicts (formsAt b i (start + from)) (drop i row)) ≡ 0
-  pub left : written out from (recordOf (formsAt b i (start + from)) (drop i row)) ≡ written lent 0 (recordOf (formsIn b) row)
+  pub left : sets out from (recordOf (formsAt b i (start + from)) (drop i row)) ≡ sets lent 0 (recordOf (formsIn b) row)
   pub kept : length out ≡ length lent
 
 module _ (b : List ℕ) (row : List ℤ) (lent : List ℕ) (p : Ready b row lent) (start : ℕ) (s : start ≡ 3 * length row + 3) where
@@ -116,14 +73,14 @@ module _ (b : List ℕ) (row : List ℤ) (lent : List ℕ) (p : Ready b row lent
     form-good : good φ ≡ true
     form-good = walking-good b i (start + from) (w .walk) within
 
-    numbers : (valueNumber φ m ≡ 0) × (firstOf (editVerdicts (formsAt b (i + 1) (start + from + widthAt b i)) (drop (i + 1) row)) ≡ 0)
+    numbers : (fieldNumber φ m ≡ 0) × (firstOf (editVerdicts (formsAt b (i + 1) (start + from + widthAt b i)) (drop (i + 1) row)) ≡ 0)
     numbers = first-zero _ _ (rw (verdicts-step b row i (start + from) within l) at (w .takes))
 
     pub written-fine : Fine b i (start + from) z
     written-fine = rw v (record { within = field-within b row (p .matched) i (start + from) (w .walk) l; form = form-good; takes = numbers .0 })
 
-    module _ (f : Field) (e : f ≡ roomOf (edited φ z (places φ))) where
-      room-is : f ≡ roomOf (edited φ m (places φ))
+    module _ (f : Field) (e : f ≡ roomOf (fieldOf φ z)) where
+      room-is : f ≡ roomOf (fieldOf φ m)
       room-is = e ∙ rw v
 
       count-is : f .count ≡ widthAt b i
@@ -136,16 +93,18 @@ module _ (b : List ℕ) (row : List ℤ) (lent : List ℕ) (p : Ready b row lent
         omega (arith, count-is, walking-within b i (start + from) (w .walk) within, plan .size, p .room, p .matched .each, w .kept),
       )
 
-      pub written-step : (after : List ℕ) → after ≡ written out from (take (f .count) (f .chars)) → Written b row lent start (i + 1) (from + f .count) after
+      pub written-step : (after : List ℕ) → after ≡ copied (take (f .count - 0) (drop 0 (f .chars))) from out → Written b row lent start (i + 1) (from + f .count) after
       written-step after a =
           let c : start + (from + f .count) ≡ start + from + widthAt b i = omega (arith, count-is) in
-          let x : after ≡ written out from (edited φ m (places φ)) = a ∙ rw (made-chars φ m form-good f room-is) in
-          let n : from + f .count ≡ from + length (edited φ m (places φ)) = rw (made-count φ m form-good f room-is, edited-size φ m) in
+          let n : from + f .count ≡ from + length (fieldOf φ m) = rw (made-count φ m form-good f room-is, edited-size φ m) in
+          let x : after ≡ sets out from (fieldOf φ m) =
+          rw (sub-zero, made-chars φ m form-good f room-is) at a ∙ copied-in (fieldOf φ m) out from (rw (← n) (written-count .1)) in
+          let rest = recordOf (formsAt b (i + 1) (start + from + widthAt b i)) (drop (i + 1) row) in
           record {
             walk = rw c (walking-step b i (start + from) (w .walk) within);
             takes = rw c (numbers .1);
-            left = rw (c, x, n) (sym (written-append out from _ _) ∙ rw (← record-step b row i (start + from) within l) (w .left));
-            kept = rw x (written-length out from _ ∙ w .kept);
+            left = rw (c, x, n) (sym (sets-append (fieldOf φ m) rest out from) ∙ rw (← record-step b row i (start + from) within l) (w .left));
+            kept = rw x (length-sets out from (fieldOf φ m) ∙ w .kept);
           }
 
   pub written-end : (i from : ℕ) (out : List ℕ) → Written b row lent start i from out → length row ≤ i
@@ -154,4 +113,4 @@ module _ (b : List ℕ) (row : List ℤ) (lent : List ℕ) (p : Ready b row lent
   written-end i from out w l =
       let k : fieldCount b ≤ i = omega (arith, p .matched .each) in
       let n : length (recordOf (formsIn b) row) ≤ length lent = omega (arith, p .room, record-length (formsIn b) row (p .matched .each ∙ sym (count-forms-in b))) in
-      sym (written-none out from) ∙ (rw (walk-end b i (start + from) k) at (w .left)) ∙ written-front lent (recordOf (formsIn b) row) n
+      rw (walk-end b i (start + from) k) at (w .left) ∙ sets-front (recordOf (formsIn b) row) lent n

@@ -1,26 +1,17 @@
--- Not 01's words: what the steps of editing a row by a plan ask of the bytes and of the row, and how characters come to stand in the record.
--- Assumes nothing.
+-- Not 01's words: what the steps of editing a row by a plan ask of the bytes and of the row. Assumes nothing.
 use mathlib.Core.Path.{_≡_}
 use mathlib.Core.Bool.{true}
-use mathlib.Core.List.{List, [], _∷_}
+use mathlib.Core.List.{List}
 use Prim.Native.Nat.{ℕ, _+_, _*_, _<_, _≤_}
 use lib.IntN.{ℤ}
 use lib.ListN.{length}
-use lib.Seq.{sets}
-use Rattle.rules.specs.Numbers.{VALUE, SIZE, badField, firstOf, unless, when}
-use Rattle.rules.specs.Form.{Form}
-use Rattle.rules.specs.Shape.{places}
-use Rattle.rules.specs.Edit.{inRange, tooBig}
+use Rattle.rules.specs.Numbers.{badField, firstOf}
 use Rattle.rules.specs.Good.{good}
 use Rattle.rules.specs.Layout.{recordLength}
 use Rattle.rules.specs.PlanBytes.{formsIn, isPlan}
-use Rattle.rules.specs.Answers.{editVerdicts}
+use Rattle.rules.specs.Answers.{editVerdicts, fieldNumber}
 use Rattle.rules.proofs.PlanWalk.{fieldCount, formAt, widthAt}
 use Rattle.planedit.specs.declared.Bad.{Bad}
-
--- VALUE before SIZE, at the field's own scale
-unfoldable pub valueNumber : Form → ℤ → ℕ
-valueNumber φ m = firstOf (unless (inRange m (places φ)) VALUE ∷ when (tooBig φ m (places φ)) SIZE ∷ [])
 
 -- the first bad field, by the number that each field gets
 abbrev pub bad : ℕ → ℕ → Bad
@@ -38,7 +29,7 @@ pub record Within (b : List ℕ) (i at : ℕ) : Type 0 where
 pub record Fine (b : List ℕ) (i at : ℕ) (m : ℤ) : Type 0 where
   pub within : Within b i at
   pub form : good (formAt b i at) ≡ true
-  pub takes : valueNumber (formAt b i at) m ≡ 0
+  pub takes : fieldNumber (formAt b i at) m ≡ 0
 
 -- a plan, and a row with a value for each field
 pub record Matched (b : List ℕ) (row : List ℤ) : Type 0 where
@@ -50,7 +41,3 @@ pub record Ready (b : List ℕ) (row : List ℤ) (lent : List ℕ) : Type 0 wher
   pub matched : Matched b row
   pub takes : firstOf (editVerdicts (formsIn b) row) ≡ 0
   pub room : recordLength (formsIn b) ≤ length lent
-
--- the lent bytes with these characters from place `at` on
-unfoldable pub written : List ℕ → ℕ → List ℕ → List ℕ
-written lent at chars = sets lent at chars

@@ -5,7 +5,7 @@ use value::Settled;
 use value::settle;
 ghost use mathlib.Core.Path.{_≡_};
 ghost use Rattle.rules.specs.Shape.{places};
-ghost use Rattle.rules.specs.Edit.{edited};
+ghost use Rattle.rules.specs.Answers.{fieldOf};
 ghost use Rattle.rules.proofs.PlanWalk.{formAt};
 ghost use Rattle.field.specs.Results.{roomOf};
 ghost use Rattle.value.specs.Settling.{settledOf};
@@ -26,7 +26,7 @@ pub(crate) fn settle_at(plan: &[u8], i: usize, at: usize, m: i64) -> Settled
 // The field of a value that is not refused.
 pub(crate) fn field_at(plan: &[u8], i: usize, at: usize, m: i64) -> Field
     requires { ⌜ Fine (now plan) i at m ⌝ }
-    ensures { λ r. ⌜ r ≡ roomOf (edited (formAt (now (plan .entry)) i at) m (places (formAt (now (plan .entry)) i at))) ⌝ }
+    ensures { λ r. ⌜ r ≡ roomOf (fieldOf (formAt (now (plan .entry)) i at) m) ⌝ }
 {
     let settled = settle_at(plan, i, at, m);
     let end = at + plan[1 + 3 * i] as usize;

@@ -3,7 +3,7 @@
 // signs and T of the first are not kept, since the proof would have to tie a room of them to the row.
 mod fields; // fields.rt: one field of a plan, and the value that goes into it
 
-use field::Field;
+use answer::refused;
 use fields::field_at;
 use fields::settle_at;
 use plan::is_plan;
@@ -11,28 +11,15 @@ use rules::Answer;
 ghost use mathlib.Core.Path.{_≡_};
 ghost use mathlib.Core.Bool.{true};
 ghost use mathlib.Core.List.{_++_};
-ghost use Prim.Native.Nat.{_+_, _≤_};
-ghost use lib.IntN.{pos};
-ghost use lib.ListN.{length, take, drop};
+ghost use lib.ListN.{length, drop};
 ghost use Rattle.rules.specs.PlanBytes.{formsIn, isPlan};
 ghost use Rattle.rules.specs.Answers.{editVerdicts, recordOf, PlanEditIs, RowIs};
-ghost use Rattle.planedit.specs.Rows.{Matched, Ready, badOf, written};
+ghost use Rattle.planedit.specs.Rows.{Matched, Ready, badOf};
 
 // The first field whose value is refused, counted from 1, with VALUE or SIZE; both 0 where none is.
 struct Bad {
     number: u8,
     field: u8,
-}
-
-fn refused(number: u8, field: u8) -> Answer
-    ensures { λ r. ⌜ r ≡ record { number = number; field = field; length = 0; value = pos 0 } ⌝ }
-{
-    Answer {
-        number,
-        field,
-        length: 0,
-        value: 0,
-    }
 }
 
 // "the first field with 6 or 8 (6 before 8)"
@@ -58,18 +45,6 @@ fn first_bad(plan: &[u8], row: &[i64]) -> Bad
     }
 }
 
-// The characters of a field into the bytes of `out` from `from` on.
-fn copy_to(field: Field, out: &mut [u8], from: usize)
-    requires { ⌜ (field .count ≤ 64) × (from + field .count ≤ length (now out)) ⌝ }
-    ensures { λ _. ⌜ now (out .exit) ≡ written (now (out .entry)) from (take (field .count) (field .chars)) ⌝ }
-{
-    let chars = field.chars;
-    let count = field.count;
-    for k in 0..count {
-        out[from + k] = chars[k];
-    }
-}
-
 // The fields of the row's values, one after the other from the first byte of `out` on.
 fn put_record(plan: &[u8], row: &[i64], out: &mut [u8])
     requires { ⌜ Ready (now plan) (now row) (now out) ⌝ }
@@ -81,8 +56,9 @@ fn put_record(plan: &[u8], row: &[i64], out: &mut [u8])
     let mut from: usize = 0;
     for i in 0..count {
         let field = field_at(plan, i, start + from, row[i]);
+        let chars = field.chars;
         let n = field.count;
-        copy_to(field, out, from);
+        copying::put(&chars[0..n], out, from);
         from += n;
     }
 }
@@ -107,12 +83,7 @@ fn edit_row(plan: &[u8], row: &[i64], out: &mut [u8]) -> Answer
         return refused(7, 0);
     }
     put_record(plan, row, out);
-    Answer {
-        number: 0,
-        field: 0,
-        length,
-        value: 0,
-    }
+    answer::done(length, 0)
 }
 
 // A row edited by a plan into the first bytes of `out`; on success the record length. PLAN comes before all else.

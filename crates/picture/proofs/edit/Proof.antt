@@ -9,22 +9,22 @@ use Rattle.picture.proofs.edit.Tie as tie
 
 returns : tie.Need-returns
 returns c =
-    let a = c .before .before in
+    let a = c .before .before .before in
     let w = text-refused _ _ _ _ _ (verdict-number _ _ (a .judge .ensures)) (c .before .if1 .taken) in
     (c .refused .ensures ∙ w .0, w .1)
 
 returns-2 : tie.Need-returns-2
 returns-2 c =
-    let a = c .before .before .before in
+    let a = c .before .before .before .before in
     let w = scale-refused _ _ _ _ _ (verdict-number _ _ (a .judge .ensures)) (search needs) (c .before .if2 .taken) in
     (c .refused2 .ensures ∙ w .0, w .1)
 
 edit-picture-requires : tie.Need-edit-picture-requires
-edit-picture-requires c κs = picture-good _ _ (c .before .before .before .before .judge .ensures) (search needs)
+edit-picture-requires c κs = picture-good _ _ (c .before .before .before .before .before .judge .ensures) (search needs)
 
 returns-3 : tie.Need-returns-3
 returns-3 c =
-    let a = c .before .before .before .before .before .before .before in
+    let a = c .before .before .before .before .before .before .before .before in
     let s = a .before .before .before in
     let w = c .before .before .edit-picture .ensures in
     by-form _ _ _ _ _ (verdict-number _ _ (a .judge .ensures)) (search needs) _ (meaning-is _ _ (a .judge .ensures) (search needs)) _ _

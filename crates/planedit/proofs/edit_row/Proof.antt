@@ -41,11 +41,12 @@ put-record-requires c κs =
 
 returns-4 : tie.Need-returns-4
 returns-4 c =
-    let e = c .before .before .before .before in
+    let e = c .before .before .before .before .before in
     let d = e .before .before in
     let a = d .before .before .before .before .before in
-    row-done _ (a .pre) (a .args .row .now) (a .args .out .now) (d .before .if1 .left) _ (d .first-bad .ensures) (e .before .if2 .left) (e .if3 .left) _ (c .before .before .put-record .ensures)
+    rw (c .done .ensures)
+    (row-done _ (a .pre) (a .args .row .now) (a .args .out .now) (d .before .if1 .left) _ (d .first-bad .ensures) (e .before .if2 .left) (e .if3 .left) _ (c .before .before .before .put-record .ensures))
 
 pub edit-row-spec : {M : Type 1} → statement M
 edit-row-spec =
-    tie.close (tie.spec shared-slice-read-count cast-count (λ c κs. search needs) returns (λ c κs. search needs) (λ c κs. search needs) returns-2 (λ c. search needs) (λ c. search needs) sub-length (λ c κs. search needs) returns-3 put-record-requires (λ c. search needs) returns-4)
+    tie.close (tie.spec shared-slice-read-count cast-count (λ c κs. search needs) returns (λ c κs. search needs) (λ c κs. search needs) returns-2 (λ c. search needs) (λ c. search needs) sub-length (λ c κs. search needs) returns-3 put-record-requires (λ c κs. search needs) (λ c. search needs) returns-4)

@@ -34,23 +34,26 @@ counts c =
     let p = c .before .before .before in
     written-count _ _ _ (p .before .before .before .pre) _ refl _ _ _ (p .loop .inv .2) (search needs) _ (value (c .before)) _ (c .field-at .ensures)
 
-copy-to-requires : tie.Need-copy-to-requires Inv-loop μ-loop
-copy-to-requires c κs = counts (c .before)
+part-put-end : tie.Need-part-put-end Inv-loop μ-loop
+part-put-end c =
+    let a = c .before .before in
+    let l : length (a .field-at .result .chars) ≡ 64 = search needs in
+    omega (arith, counts a .0)
 
 add-from : tie.Need-add-from Inv-loop μ-loop
 add-from c =
-    let n = counts (c .before .before .before .before) in
+    let n = counts (c .before .before .before .before .before .before .before) in
     omega arith
 
 loop-again : tie.Need-loop-again Inv-loop μ-loop
 loop-again c =
-    let d = c .before .before .before .before in
+    let d = c .before .before .before .before .before .before .before in
     let p = d .before .before .before in
-    (search needs, refl, written-step _ _ _ (p .before .before .before .pre) _ refl _ _ _ (p .loop .inv .2) (search needs) _ (value (d .before)) _ (d .field-at .ensures) _ (c .before .before .copy-to .ensures))
+    (search needs, refl, written-step _ _ _ (p .before .before .before .pre) _ refl _ _ _ (p .loop .inv .2) (search needs) _ (value (d .before)) _ (d .field-at .ensures) _ (c .before .before .put .ensures))
 
 returns : tie.Need-returns Inv-loop μ-loop
 returns c = written-end _ _ _ (c .before .before .before .before .pre) _ refl _ _ _ (c .before .loop .inv .2) (search needs)
 
 pub put-record-spec : {M : Type 1} → statement M
 put-record-spec =
-    tie.close (tie.spec Inv-loop μ-loop (λ c. search needs) (λ c. search needs) loop-holds (λ c. search needs) (λ c. search needs) (λ c. search needs) field-at-requires copy-to-requires add-from (λ c. search needs) (λ c. search needs) loop-again (λ c. search needs) returns)
+    tie.close (tie.spec Inv-loop μ-loop (λ c. search needs) (λ c. search needs) loop-holds (λ c. search needs) (λ c. search needs) (λ c. search needs) field-at-requires (λ c. search needs) (λ c. search needs) part-put-end (λ c κs. search needs) add-from (λ c. search needs) (λ c. search needs) loop-again (λ c. search needs) returns)
