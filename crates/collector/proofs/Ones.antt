@@ -3,49 +3,33 @@
 use Prim.Native.Nat.{ℕ, zero, suc}
 use mathlib.Core.Path.{_≡_, refl, sym, ap, _∙_}
 use mathlib.Core.Bool.{true}
-use mathlib.Core.List.{List, [], _∷_, map}
+use mathlib.Core.List.{List}
 use mathlib.Core.Option.{Option}
-use lib.IntN.{ℤ, pos}
+use lib.IntN.{ℤ}
 use lib.ListN.{length}
-use Rattle.rules.specs.Numbers.{PLAN, firstOf}
+use Rattle.rules.specs.Numbers.{firstOf}
 use Rattle.rules.specs.Form.{Form, meaning}
 use Rattle.rules.specs.Shape.{verdict}
-use Rattle.rules.specs.Layout.{forms}
-use Rattle.rules.specs.Answers.{answer, lentAfter, unread, said, numberOver, readBefore, recordAnswer, ByPlan, no-plan, as-layout}
+use Rattle.rules.specs.Answers.{amounts, answer, lentAfter, said, unsaid, numberOver, readBefore, recordAnswer}
 use Rattle.rules.specs.PlanBytes.{allGood}
 use Rattle.rules.specs.Collector.{packed, rowBytes, bytesOf, readRunNumber, ReadRunIs}
 use Rattle.rules.proofs.Exact.{reads-one}
 use Rattle.rules.proofs.Forms.{accepted-good, good-parts}
-use Rattle.rules.proofs.Plans.{forms-good, layout-one}
-use Rattle.rules.proofs.Outcomes.{record-reads-one}
-use Rattle.collector.specs.PlanRuns.{placesIn, RecordRunIs, PlanReadRunIs, RowRunIs, PlanEditRunIs}
-
-abbrev Refused : List ℕ → ℕ → List ℕ → Type 0
-Refused lent r after = (r ≡ packed (answer PLAN 0 0 (pos 0))) × (after ≡ lent)
-
-module _ (b lent : List ℕ) (Right : List Form → ℕ → List ℕ → Type 0)
-    (one : (φs : List Form) → allGood φs ≡ true → (r s : ℕ) (x y : List ℕ) → Right φs r x → Right φs s y → (r ≡ s) × (x ≡ y)) where
-  run-one : (r s : ℕ) (x y : List ℕ) → ByPlan b (Refused lent r x) (λ φs. Right φs r x) → ByPlan b (Refused lent s y) (λ φs. Right φs s y) → (r ≡ s) × (x ≡ y)
-  run-one r s x y (no-plan n p) (no-plan m q) = (p .0 ∙ sym (q .0), p .1 ∙ sym (q .1))
-  run-one r s x y (no-plan n p) (as-layout l h q) = absurd (n l h)
-  run-one r s x y (as-layout l h p) (no-plan m q) = absurd (m l h)
-  run-one r s x y (as-layout l h p) (as-layout m g q) = one (forms l) (forms-good l (h .layout)) r s x y p (rw (layout-one b l m h g) q)
+use Rattle.rules.proofs.Outcomes.{one-outcome, record-reads-one, same-pair}
+use Rattle.collector.specs.PlanRuns.{placesIn, RecordRunIs, PlanReadRunIs, PlanEditRunIs}
 
 record-run-one : (rec run : List ℕ) (φs : List Form) → allGood φs ≡ true → (r s : ℕ) (x y : List ℕ) → RecordRunIs φs rec run r x → RecordRunIs φs rec run s y → (r ≡ s) × (x ≡ y)
 record-run-one rec run φs h r s x y a b =
     let e = record-reads-one φs rec h (a .says) (b .says) (a .reads) (b .reads) in (
       a .gives ∙ ap (λ (os : List (Option ℤ)). packed (recordAnswer φs rec (placesIn run) os)) e ∙ sym (b .gives),
-      a .leaves ∙ ap (λ (os : List (Option ℤ)). lentAfter (numberOver (readBefore φs rec (placesIn run)) (map unread os) 0) (rowBytes (map said os)) run) e ∙ sym (b .leaves),
+      a .leaves ∙ ap (λ (os : List (Option ℤ)). lentAfter (numberOver (readBefore φs rec (placesIn run)) (unsaid os) 0) (rowBytes (amounts os)) run) e ∙ sym (b .leaves),
     )
 
 pub plan-read-run-one : (b rec run : List ℕ) (r s : ℕ) (x y : List ℕ) → PlanReadRunIs b rec run r x → PlanReadRunIs b rec run s y → (r ≡ s) × (x ≡ y)
-plan-read-run-one b rec run = run-one b run (λ φs r x. RecordRunIs φs rec run r x) (record-run-one rec run)
-
-row-run-one : (run out : List ℕ) (φs : List Form) → allGood φs ≡ true → (r s : ℕ) (x y : List ℕ) → RowRunIs φs run out r x → RowRunIs φs run out s y → (r ≡ s) × (x ≡ y)
-row-run-one run out φs h r s x y a b = (a .gives ∙ sym (b .gives), a .leaves ∙ sym (b .leaves))
+plan-read-run-one b rec run r s x y = one-outcome b same-pair (λ φs h. record-run-one rec run φs h r s x y)
 
 pub plan-edit-run-one : (b run out : List ℕ) (r s : ℕ) (x y : List ℕ) → PlanEditRunIs b run out r x → PlanEditRunIs b run out s y → (r ≡ s) × (x ≡ y)
-plan-edit-run-one b run out = run-one b out (λ φs r x. RowRunIs φs run out r x) (row-run-one run out)
+plan-edit-run-one b run out r s x y = one-outcome b same-pair (λ φs h p q. same-pair (p .gives, p .leaves) (q .gives, q .leaves))
 
 -- By a picture: a refused text leaves no say to what the field says.
 abbrev ReadAnswer : List ℕ → List ℕ → List ℕ → Option ℤ → ℕ

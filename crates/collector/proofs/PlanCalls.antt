@@ -1,13 +1,12 @@
 -- The calls on plans with rows as runs: a row of 32 numbers holds what any run would, since no layout has more fields. Assumes nothing.
-use Prim.Native.Nat.{ℕ, zero, suc, _+_, _*_, _/_, _%_, _<_, _≤_, min}
+use Prim.Native.Nat.{ℕ, zero, suc, _+_, _*_, _/_, _%_, _≤_, min}
 use mathlib.Core.Path.{_≡_, refl, sym, ap, _∙_}
 use mathlib.Core.Bool.{Bool, true, false, cond}
-use mathlib.Core.List.{List, [], _∷_, _++_, map}
-use mathlib.Core.Option.{Option, none, some}
-use native.Mathlib.Nat.{div-add-mod'}
+use mathlib.Core.List.{List, [], _∷_, _++_}
+use mathlib.Core.Option.{Option}
 use native.Mathlib.Omega.{arith}
 use borrow.Author.Tests.{ltb-true, ltb-false, lt-ltb, le-ltb, le-leb, eq-eqb, ne-eqb, eqb-true, eqb-false}
-use lib.Dec.{leb, ltb, eqb}
+use lib.Dec.{ltb, eqb}
 use lib.IntN.{ℤ, pos}
 use lib.ListN.{length, take, drop, length-map}
 use lib.Seq.{take-append-seam}
@@ -15,10 +14,11 @@ use Rattle.rules.specs.declared.Answer.{Answer}
 use Rattle.rules.specs.Numbers.{ROOM, LENGTH, COUNT, when, unless, firstOf, badField}
 use Rattle.rules.specs.Form.{Form}
 use Rattle.rules.specs.Layout.{countFits, verdicts, accepted, forms, recordLength, planOf, HasPlan}
-use Rattle.rules.specs.Answers.{answer, compileAnswer, lentAfter, unread, said, numberOver, answerOver, RecordReads, readBefore, recordAnswer, rowAfter, RecordIs, ByPlan, no-plan, as-layout, PlanReadIs, editVerdicts, recordOf, rowNumber, rowAnswer, RowIs, PlanEditIs}
+use Rattle.rules.specs.Answers.{answer, compileAnswer, lentAfter, said, unsaid, amounts, numberOver, answerOver, readBefore, recordAnswer, rowAfter, RecordIs, no-plan, as-layout, PlanReadIs, editVerdicts, recordOf, rowNumber, rowAnswer, RowIs, PlanEditIs}
 use Rattle.rules.specs.Collector.{packed, rowBytes, rowIn}
-use Rattle.rules.proofs.Logic.{by-test, lt-or-le}
-use Rattle.rules.proofs.Firsts.{lent-kept, first-zero, first-here}
+use Rattle.rules.proofs.Logic.{by-test}
+use Rattle.rules.proofs.Firsts.{lent-kept, first-zero}
+use Rattle.rules.proofs.Outcomes.{reads-count}
 use Rattle.rules.proofs.Plans.{forms-count, forms-good, record-le, plan-length}
 use Rattle.wire.specs.Run.{putRow, getRow}
 use Rattle.wire.proofs.Rows.{row-length, row-in-length}
@@ -39,12 +39,6 @@ when-zero : (b : Bool) (n : ℕ) → when b (suc n) ≡ 0 → b ≡ false
 when-zero true n h = absurd (omega arith)
 when-zero false n h = refl
 
-says-count : (φs : List Form) (rec : List ℕ) (os : List (Option ℤ)) → RecordReads φs rec os → length os ≡ length φs
-says-count [] rec [] r = refl
-says-count [] rec (o ∷ os) r = absurd r
-says-count (φ ∷ φs) rec [] r = absurd r
-says-count (φ ∷ φs) rec (o ∷ os) r = ap suc (says-count φs _ os (r .1))
-
 module _ (φs : List Form) (rec run : List ℕ) (few : length φs ≤ 32) (row : List ℤ) (size : length row ≡ min (placesIn run) 32) (a : Answer) (after : List ℤ) (h : RecordIs φs rec row a after) where
   abbrev os : List (Option ℤ)
   os = h .says
@@ -55,7 +49,7 @@ module _ (φs : List Form) (rec run : List ℕ) (few : length φs ≤ 32) (row :
   capped = rw (size, short (placesIn run) (length φs) few)
 
   abbrev number : ℕ
-  number = numberOver (readBefore φs rec (placesIn run)) (map unread os) 0
+  number = numberOver (readBefore φs rec (placesIn run)) (unsaid os) 0
 
   answer-is : a ≡ recordAnswer φs rec (placesIn run) os
   unfolding recordAnswer
@@ -66,20 +60,20 @@ module _ (φs : List Form) (rec run : List ℕ) (few : length φs ≤ 32) (row :
   number-is = ap (λ (x : Answer). x .number) answer-is ∙ answer-number number _ (length φs) (pos 0)
 
   pub run-refused : (a .number ≡ 0 → ⊥) → RecordRunIs φs rec run (packed a) run
-  run-refused z = record { says = os; reads = h .reads; gives = ap packed answer-is; leaves = sym (lent-kept number (rowBytes (map said os)) run (λ q. z (number-is ∙ q))) }
+  run-refused z = record { says = os; reads = h .reads; gives = ap packed answer-is; leaves = sym (lent-kept number (rowBytes (amounts os)) run (λ q. z (number-is ∙ q))) }
 
   module _ (z : a .number ≡ 0) where
     zero-number : number ≡ 0
     zero-number = sym number-is ∙ z
 
-    row-is : after ≡ map said os ++ drop (length (map said os)) row
+    row-is : after ≡ amounts os ++ drop (length (amounts os)) row
     unfolding rowAfter
     row-is =
-        let n : numberOver (readBefore φs rec (length row)) (map unread os) 0 ≡ 0 = rw capped zero-number in
+        let n : numberOver (readBefore φs rec (length row)) (unsaid os) 0 ≡ 0 = rw capped zero-number in
         h .leaves ∙ rw n
 
-    values-count : length (map said os) ≡ length φs
-    values-count = length-map os said ∙ says-count φs rec os (h .reads)
+    values-count : length (amounts os) ≡ length φs
+    values-count = length-map os said ∙ reads-count φs rec os (h .reads)
 
     pub length-is : a .length ≡ length φs
     unfolding recordAnswer answerOver
@@ -91,18 +85,18 @@ module _ (φs : List Form) (rec run : List ℕ) (few : length φs ≤ 32) (row :
     room-is = ltb-false (placesIn run) (length φs) (when-zero _ 6 (first-zero _ _ (first-zero _ _ (first-zero _ _ zero-number .0) .1) .0))
 
     -- the values read are the row's first
-    pub values-are : take (length φs) after ≡ map said os
-    values-are = ap (λ (x : List ℤ). take (length φs) x) row-is ∙ ap (λ (n : ℕ). take n (map said os ++ drop (length (map said os)) row)) (sym values-count) ∙ take-append-seam (map said os) _
+    pub values-are : take (length φs) after ≡ amounts os
+    values-are = ap (λ (x : List ℤ). take (length φs) x) row-is ∙ ap (λ (n : ℕ). take n (amounts os ++ drop (length (amounts os)) row)) (sym values-count) ∙ take-append-seam (amounts os) _
 
-    pub run-done : (left : List ℕ) → left ≡ putRow run (map said os) → RecordRunIs φs rec run (packed a) left
+    pub run-done : (left : List ℕ) → left ≡ putRow run (amounts os) → RecordRunIs φs rec run (packed a) left
     unfolding putRow
     run-done left e =
-        let l : 8 * length (map said os) ≤ length run = omega (arith, values-count, room-is) in
+        let l : 8 * length (amounts os) ≤ length run = omega (arith, values-count, room-is) in
         record {
           says = os;
           reads = h .reads;
           gives = ap packed answer-is;
-          leaves = e ∙ rw (zero-number, le-leb (8 * length (map said os)) (length run) l, row-length (map said os));
+          leaves = e ∙ rw (zero-number, le-leb (8 * length (amounts os)) (length run) l, row-length (amounts os));
         }
 
 -- By a plan.
@@ -201,7 +195,7 @@ read-small b rec row a after (no-plan n p) = rw (p .0) (omega arith)
 read-small b rec row a after (as-layout l p h) =
     let c = forms-count l (p .layout) in
     let k : length (forms l) ≤ 65536 = omega arith in
-    rw (h .gives) (over-small (readBefore (forms l) rec (length row)) (map unread (h .says)) 0 (length (forms l)) k)
+    rw (h .gives) (over-small (readBefore (forms l) rec (length row)) (unsaid (h .says)) 0 (length (forms l)) k)
 
 pub edit-small : (b : List ℕ) (row : List ℤ) (out : List ℕ) (a : Answer) (after : List ℕ) → PlanEditIs b row out a after → a .length ≤ 65536
 unfolding rowAnswer

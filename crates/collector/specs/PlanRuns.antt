@@ -2,16 +2,15 @@
 -- LENGTH; for reading, fewer than that is ROOM and spare bytes stay untouched." Assumes nothing.
 use mathlib.Core.Path.{_≡_}
 use mathlib.Core.Bool.{cond}
-use mathlib.Core.List.{List, [], _∷_, map}
+use mathlib.Core.List.{List}
 use mathlib.Core.Option.{Option}
 use Prim.Native.Nat.{ℕ, _*_, _/_, _%_}
 use lib.Dec.{ltb, eqb}
 use lib.IntN.{ℤ, pos}
 use lib.ListN.{length}
-use Rattle.rules.specs.declared.Answer.{Answer}
 use Rattle.rules.specs.Numbers.{LENGTH, PLAN}
 use Rattle.rules.specs.Form.{Form}
-use Rattle.rules.specs.Answers.{answer, lentAfter, unread, said, numberOver, RecordReads, readBefore, recordAnswer, recordOf, rowNumber, rowAnswer, ByPlan}
+use Rattle.rules.specs.Answers.{answer, lentAfter, rowLength, unsaid, amounts, numberOver, RecordReads, readBefore, recordAnswer, recordOf, rowNumber, rowAnswer, ByPlan}
 use Rattle.rules.specs.Collector.{packed, rowBytes, rowIn}
 
 -- as many numbers as the run holds whole
@@ -23,7 +22,7 @@ pub record RecordRunIs (φs : List Form) (rec run : List ℕ) (r : ℕ) (after :
   pub says : List (Option ℤ)
   pub reads : RecordReads φs rec says
   pub gives : r ≡ packed (recordAnswer φs rec (placesIn run) says)
-  pub leaves : after ≡ lentAfter (numberOver (readBefore φs rec (placesIn run)) (map unread says) 0) (rowBytes (map said says)) run
+  pub leaves : after ≡ lentAfter (numberOver (readBefore φs rec (placesIn run)) (unsaid says) 0) (rowBytes (amounts says)) run
 
 abbrev notPlanRun : List ℕ → ℕ → List ℕ → Type 0
 notPlanRun lent r after = (r ≡ packed (answer PLAN 0 0 (pos 0))) × (after ≡ lent)
@@ -37,11 +36,11 @@ rowCount n = cond (eqb (n % 8) 0) (cond (ltb 32 (n / 8)) 0 (n / 8)) 0
 
 -- the row in a run of exactly eight bytes a field; else none
 abbrev pub runFits : List Form → List ℕ → {A : Type 0} → A → A → A
-runFits φs run right other = cond (eqb (length run) (8 * length φs)) right other
+runFits φs run right other = cond (eqb (length run) (8 * rowLength φs)) right other
 
 pub record RowRunIs (φs : List Form) (run out : List ℕ) (r : ℕ) (after : List ℕ) : Type 0 where
-  pub gives : r ≡ packed (runFits φs run (rowAnswer φs (rowIn (length φs) run) (length out)) (answer LENGTH 0 0 (pos 0)))
-  pub leaves : after ≡ runFits φs run (lentAfter (rowNumber φs (rowIn (length φs) run) (length out)) (recordOf φs (rowIn (length φs) run)) out) out
+  pub gives : r ≡ packed (runFits φs run (rowAnswer φs (rowIn (rowLength φs) run) (length out)) (answer LENGTH 0 0 (pos 0)))
+  pub leaves : after ≡ runFits φs run (lentAfter (rowNumber φs (rowIn (rowLength φs) run) (length out)) (recordOf φs (rowIn (rowLength φs) run)) out) out
 
 abbrev pub PlanEditRunIs : List ℕ → List ℕ → List ℕ → ℕ → List ℕ → Type 0
 PlanEditRunIs b run out r after = ByPlan b (notPlanRun out r after) (λ φs. RowRunIs φs run out r after)

@@ -2,7 +2,7 @@
 -- line's contract asks determines it: two lines that meet it are equal. Assumes nothing.
 use mathlib.Core.Path.{_≡_, refl, sym, _∙_, ap}
 use mathlib.Core.Bool.{cond}
-use mathlib.Core.List.{List, [], _∷_, map, map-map}
+use mathlib.Core.List.{List, [], map}
 use mathlib.Core.Option.{Option}
 use Prim.Native.Nat.{ℕ, zero, suc, _≤_}
 use native.Mathlib.Nat.{le-trans}
@@ -18,16 +18,10 @@ use Rattle.rules.specs.Form.{Form}
 use Rattle.rules.specs.Layout.{forms, HasPlan}
 use Rattle.rules.specs.Answers.{answer, lentAfter, said, unread, numberOver, answerOver, RecordReads, readBefore, recordAnswer, rowAfter, RecordIs, no-plan, as-layout, PlanReadIs}
 use Rattle.rules.specs.Lister.{signedDecimal, answerLine, recordLine}
-use Rattle.rules.proofs.Plans.{forms-good, forms-count, layout-one}
-use Rattle.rules.proofs.Outcomes.{record-reads-one}
+use Rattle.rules.proofs.Plans.{forms-count, layout-one}
+use Rattle.rules.proofs.Outcomes.{one-outcome, reads-count, record-reads-one}
 use Rattle.listing.specs.Lines.{lineLength, lineMemory, textOf, RecordText, RecordLineIs}
 use Rattle.listing.proofs.Texts.{answer-text}
-
-reads-length : (φs : List Form) (rec : List ℕ) (os : List (Option ℤ)) → RecordReads φs rec os → length os ≡ length φs
-reads-length [] rec [] h = refl
-reads-length [] rec (o ∷ os) h = absurd h
-reads-length (φ ∷ φs) rec [] h = absurd h
-reads-length (φ ∷ φs) rec (o ∷ os) h = ap suc (reads-length φs _ os (h .1))
 
 -- a row with room for every field is as good as one of just their number
 same-room : (φs : List Form) (rec : List ℕ) (m n : ℕ) → length φs ≤ m → length φs ≤ n → readBefore φs rec m ≡ readBefore φs rec n
@@ -51,8 +45,8 @@ module _ (φs : List Form) (rec : List ℕ) (row : List ℤ) (few : length φs �
   unfolding recordAnswer answerOver rowAfter recordLine
   read-text k r after w =
       let os = w .says in
-      let n : length φs ≡ length (map said os) = sym (length-map os said ∙ reads-length φs rec os (w .reads)) in
-      rw (w .gives, w .leaves, ← map-map signedDecimal said os, ← same-room φs rec (length row) (length φs) few (omega arith), n)
+      let n : length φs ≡ length (map said os) = sym (length-map os said ∙ reads-count φs rec os (w .reads)) in
+      rw (w .gives, w .leaves, ← same-room φs rec (length row) (length φs) few (omega arith), n)
       (let b = readBefore φs rec (length row) in
       spoken k (numberOver b (map unread os) 0) (cond (eqb b 0) (badField (map unread os)) 0) (map said os) row)
 
@@ -79,14 +73,8 @@ record-few b rec row r after (as-layout l p w) =
 
 -- One line.
 pub record-text-one : (b rec : List ℕ) (k : ℕ) (t u : List ℕ) → RecordText b k rec t → RecordText b k rec u → t ≡ u
-record-text-one b rec k t u (no-plan n p) (no-plan m q) = p ∙ sym q
-record-text-one b rec k t u (no-plan n p) (as-layout l h q) = absurd (n l h)
-record-text-one b rec k t u (as-layout l h p) (no-plan m q) = absurd (m l h)
-record-text-one b rec k t u (as-layout l h p) (as-layout m g q) =
-    let e = layout-one b l m h g in
-    let w : RecordReads (forms l) rec (q .0) = rw e (q .1) in
-    let o = record-reads-one (forms l) rec (forms-good l (h .layout)) (p .0) (q .0) (p .1) w in
-    p .2 ∙ rw (o, e) (sym (q .2))
+record-text-one b rec k t u =
+    one-outcome b (λ p q. p ∙ sym q) (λ φs h p q. p .2 ∙ rw (record-reads-one φs rec h (p .0) (q .0) (p .1) (q .1)) (sym (q .2)))
 
 pub record-line-one : (k : ℕ) (b rec out : List ℕ) (r s : ℕ) (x y : List ℕ) → RecordLineIs k b rec out r x → RecordLineIs k b rec out s y → (r ≡ s) × (x ≡ y)
 record-line-one k b rec out r s x y a c =

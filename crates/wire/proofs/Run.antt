@@ -1,5 +1,5 @@
--- A number put into a run reads back, and nothing else of the run changes: the run is cut at the offset and eight bytes on, so what is
--- read is the part between the cuts. Assumes nothing.
+-- A number put into a run and read from it, where its eight bytes fit and where they do not; and the number of its own bytes is that number.
+-- Assumes nothing.
 use mathlib.Core.Path.{_≡_, sym, _∙_, ap}
 use mathlib.Core.List.{List, _++_}
 use Prim.Native.Nat.{ℕ, _+_, _*_, _≤_, _<_}
@@ -7,7 +7,7 @@ use native.Mathlib.Omega.{arith}
 use lib.Dec.{leb}
 use lib.IntN.{ℤ, pos}
 use lib.ListN.{length, take, drop, length-append, length-drop}
-use lib.Seq.{take-at, drop-at, length-take-le}
+use lib.Seq.{take-at, length-take-le}
 use borrow.Author.Tests.{leb-true, leb-false, le-leb, lt-leb}
 use mir.Syntax.{w64}
 use mir.Val.{SFits}
@@ -55,9 +55,3 @@ pub int-bytes : (m : ℤ) (rest : List ℕ) → SFits w64 m → intIn (bytesOf m
 unfolding intIn bytesOf
 int-bytes m rest f =
     rw (take-at (leBytes 8 (bitsOf m)) rest 8 (eight-bytes m), value-bytes 8 (bitsOf m) (bits-lt m f)) (int-bits m f)
-
-module _ (d : List ℕ) (at : ℕ) (m : ℤ) (room : at + 8 ≤ length d) where
-  pub put-get : SFits w64 m → getAt (putAt d at m) at ≡ m
-  put-get f =
-      rw (get-in (putAt d at m) at (rw (put-length d at m) room), put-in d at m room, drop-at (take at d) (bytesOf m ++ drop (at + 8) d) at (length-take-le at d (omega arith)))
-      (int-bytes m (drop (at + 8) d) f)

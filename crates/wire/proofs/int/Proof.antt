@@ -4,15 +4,6 @@ use Rattle.wire.proofs.Complement.{as-int, from-fits, int-neg}
 use Rattle.wire.proofs.int.Statement.{statement}
 use Rattle.wire.proofs.int.Tie as tie
 
-cast-result : tie.Need-cast-result
-cast-result c = search needs
-
-sub-result : tie.Need-sub-result
-sub-result c = search needs
-
-cast-result-2 : tie.Need-cast-result-2
-cast-result-2 c = search needs
-
 sub-result-2 : tie.Need-sub-result-2
 sub-result-2 c = from-fits (c .before .args .u) (c .if1 .left) (c .before .fits .u .fits)
 
@@ -23,4 +14,4 @@ returns-2 : tie.Need-returns-2
 returns-2 c = int-neg (c .before .args .u) (c .if1 .left) (c .before .fits .u .fits)
 
 pub int-spec : {M : Type 1} → statement M
-int-spec = tie.close (tie.spec cast-result sub-result cast-result-2 sub-result-2 returns returns-2)
+int-spec = tie.close (tie.spec (λ c. search needs) (λ c. search needs) (λ c. search needs) sub-result-2 returns returns-2)

@@ -1,6 +1,6 @@
 -- `wire::store` meets its contract: after j turns the first j bytes stand in the run and the number divided by 256^j is left. Assumes nothing.
 use mathlib.Core.Path.{_≡_, sym, ap, _∙_}
-use Prim.Native.Nat.{_+_, _-_, _/_, _^_, _≤_}
+use Prim.Native.Nat.{_-_, _/_, _^_, _≤_}
 use native.Mathlib.Nat.{div-one}
 use native.Mathlib.Omega.{arith}
 use lib.ListN.{length}
@@ -20,26 +20,11 @@ abbrev μ-loop : tie.MeasureT-loop
 kept : (c : tie.At-loop Inv-loop μ-loop) → length (c .loop .run) ≡ length (c .before .before .before .args .run .now)
 kept c = ap length (c .loop .inv .1) ∙ store-length _ _ _ _ (c .before .before .before .pre) (c .loop .inv .0)
 
-bits-requires : tie.Need-bits-requires Inv-loop μ-loop
-bits-requires c κs = search needs
-
 loop-holds : tie.Need-loop-holds Inv-loop μ-loop
 loop-holds c = (search needs, store-none _ _ _, sym (div-one _))
 
-cast-run : tie.Need-cast-run Inv-loop μ-loop
-cast-run c = search needs
-
-add-run : tie.Need-add-run Inv-loop μ-loop
-add-run c = search needs
-
 slice-write-run : tie.Need-slice-write-run Inv-loop μ-loop
 slice-write-run c = omega (arith, kept (c .before))
-
-add-j : tie.Need-add-j Inv-loop μ-loop
-add-j c = search needs
-
-loop-less : tie.Need-loop-less Inv-loop μ-loop
-loop-less c = search needs
 
 loop-again : tie.Need-loop-again Inv-loop μ-loop
 loop-again c = (
@@ -59,17 +44,4 @@ returns c =
 
 pub store-spec : {M : Type 1} → statement M
 store-spec =
-    tie.close
-    (tie.spec
-    Inv-loop
-    μ-loop
-    bits-requires
-    loop-holds
-    cast-run
-    add-run
-    slice-write-run
-    add-j
-    loop-less
-    loop-again
-    same-length
-    returns)
+    tie.close (tie.spec Inv-loop μ-loop (λ c κs. search needs) loop-holds (λ c. search needs) (λ c. search needs) slice-write-run (λ c. search needs) (λ c. search needs) loop-again same-length returns)
