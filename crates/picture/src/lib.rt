@@ -35,7 +35,7 @@ pub fn edit(text: &[u8], m: i64, q: u64, out: &mut [u8]) -> Answer
     if judged.number != 0 {
         return refused(judged.number, 0);
     }
-    if 15 < q {
+    if (rules::Picture::MOST_SCALE as u64) < q {
         return refused(6, 0);
     }
     let picture = judged.picture;
