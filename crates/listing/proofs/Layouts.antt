@@ -1,31 +1,35 @@
 -- The line of a layout says what compiling it answers. With the longest plan's room lent that never is ROOM, so the line is that of the
 -- layout alone; and on success the plan's first byte and its length give the two counts. Assumes nothing.
 use mathlib.Core.Path.{_≡_, refl, sym, _∙_}
-use mathlib.Core.Bool.{true, false, cond}
-use mathlib.Core.List.{List, [], _∷_, map}
+use mathlib.Core.Bool.{true, false, cond, true≢false}
+use mathlib.Core.List.{List, [], _∷_, _++_, map}
 use Prim.Native.Nat.{ℕ, zero, suc, _+_, _-_, _*_, _≤_}
 use native.Mathlib.Omega.{arith}
 use lib.Dec.{ltb, eqb}
 use lib.IntN.{ℤ, pos}
-use lib.ListN.{length, getD, length-append}
-use borrow.Author.Tests.{le-ltb, eqb-false}
+use lib.ListN.{length, getD, take, drop, length-append}
+use lib.Seq.{take-at}
+use borrow.Author.Tests.{le-ltb, eqb-true, eqb-false}
 use mir.Syntax.{w64}
 use mir.Val.{toZ}
 use mir.Facts.{toZ-pos}
 use Rattle.rules.specs.declared.Answer.{Answer}
 use Rattle.rules.specs.Numbers.{COUNT, ROOM, when, unless, firstOf, badField}
-use Rattle.rules.specs.Layout.{countFits, verdicts, accepted, forms, recordLength, planOf}
+use Rattle.rules.specs.Layout.{countFits, verdicts, accepted, forms, recordLength, planOf, HasPlan}
 use Rattle.rules.specs.Answers.{answer, lentAfter, numberOver, answerOver, compileNumber, compileAnswer, compileMemory}
 use Rattle.rules.specs.Lister.{decimal, signedDecimal, layoutLine}
 use Rattle.rules.proofs.Firsts.{first-zero, first-stop}
 use Rattle.rules.proofs.Logic.{by-test}
 use Rattle.rules.proofs.Plans.{plan-length, record-le, forms-good, forms-count}
 use Rattle.listing.specs.Lines.{mostPlan, lineLength, lineMemory, textOf, layoutText, listedOf}
+use Rattle.listing.specs.Program.{mostRecord}
 use Rattle.listing.proofs.Texts.{answer-text}
 
-plan-le : (l : List ℕ) → accepted l ≡ true → length (planOf (forms l)) ≤ mostPlan
-plan-le l h =
-    omega (arith, plan-length (forms l), record-le (forms l) (forms-good l h), forms-count l h .1)
+pub record-fits : (l : List ℕ) → accepted l ≡ true → recordLength (forms l) ≤ mostRecord
+record-fits l h = omega (arith, record-le (forms l) (forms-good l h), forms-count l h .1)
+
+pub plan-fits : (l : List ℕ) → accepted l ≡ true → length (planOf (forms l)) ≤ mostPlan
+plan-fits l h = omega (arith, plan-length (forms l), record-fits l h, forms-count l h .1)
 
 -- the refusals of the layout itself, before that for room
 abbrev before : List ℕ → List ℕ
@@ -47,7 +51,7 @@ unfolding compileAnswer answerOver numberOver
 room-same l plan h =
     let n = length (planOf (forms l)) in
     by-test (accepted l)
-    (λ e. let p = plan-le l e in rw (le-ltb (length plan) n (omega arith), le-ltb n n (omega arith)))
+    (λ e. let p = plan-fits l e in rw (le-ltb (length plan) n (omega arith), le-ltb n n (omega arith)))
     (λ e.
     let z = refused-before l e in
     rw (first-stop (before l) (when (ltb (length plan) n) ROOM ∷ []) z, first-stop (before l) (when (ltb n n) ROOM ∷ []) z))
@@ -55,6 +59,14 @@ room-same l plan h =
 pub layout-text : (l plan : List ℕ) → mostPlan ≤ length plan → layoutText l plan ≡ layoutLine l
 unfolding layoutText layoutLine
 layout-text l plan h = rw (room-same l plan h)
+
+-- With room for its plan the layout alone decides.
+accepted-number : (l : List ℕ) (room : ℕ) → length (planOf (forms l)) ≤ room → accepted l ≡ true → compileNumber l room ≡ 0
+unfolding accepted compileNumber numberOver firstOf
+accepted-number l room r h =
+    let a = first-zero (unless (countFits l) COUNT) (firstOf (verdicts l) ∷ []) (eqb-true (firstOf (before l)) 0 h) in
+    let b = first-zero (firstOf (verdicts l)) [] (a .1) in
+    rw (a .0, b .0, le-ltb room (length (planOf (forms l))) r)
 
 answer-number : (n field length : ℕ) → answer n field length (pos 0) .number ≡ n
 answer-number zero field length = refl
@@ -73,7 +85,7 @@ compiled l plan after a p q h =
     let room = when (ltb (length plan) (length (planOf (forms l)))) ROOM in
     let n : numberOver (unless (countFits l) COUNT) (verdicts l) room ≡ 0 = sym (answer-number _ _ _) ∙ rw p at h in
     let e = accepted-before l room n in
-    record { size = rw (p, n) (plan-length (forms l)); few = rw (p, n) (plan-le l e); some = rw (q, n) (omega arith); first = rw (q, n) }
+    record { size = rw (p, n) (plan-length (forms l)); few = rw (p, n) (plan-fits l e); some = rw (q, n) (omega arith); first = rw (q, n) }
 
 -- the plan's bytes lie in the lent plan, refused or not
 inside : (n field : ℕ) (bytes plan : List ℕ) → answer n field (length bytes) (pos 0) .length ≤ length (lentAfter n bytes plan)
@@ -105,3 +117,34 @@ unfolding layoutText listedOf
 listed l plan out after a zs r e h p q =
     let t = answer-text 0 a zs _ h in
     (rw (p, t, e), rw (← e, ← t) q)
+
+no-length : (n field length : ℕ) → (n ≡ 0 → ⊥) → answer n field length (pos 0) .length ≡ 0
+no-length zero field length h = absurd (h refl)
+no-length (suc n) field length h = refl
+
+-- What compiling leaves in the longest plan's room: the length 0 exactly where the layout is refused, else the plan, which stands first.
+module _ (l plan after : List ℕ) (n : ℕ) (room : mostPlan ≤ length plan) (p : n ≡ compileAnswer l plan .length) where
+  taken-plan : accepted l ≡ true → (n ≡ length (planOf (forms l))) × (compileMemory l plan ≡ planOf (forms l) ++ drop (length (planOf (forms l))) plan)
+  unfolding compileAnswer answerOver compileMemory compileNumber
+  taken-plan h =
+      let r = when (ltb (length plan) (length (planOf (forms l)))) ROOM in
+      let z : numberOver (unless (countFits l) COUNT) (verdicts l) r ≡ 0 = accepted-number l (length plan) (omega (arith, plan-fits l h)) h in
+      (p ∙ rw z, rw z)
+
+  refused-plan : accepted l ≡ false → n ≡ 0
+  unfolding compileAnswer answerOver
+  refused-plan h =
+      let r = when (ltb (length plan) (length (planOf (forms l)))) ROOM in
+      let m = numberOver (unless (countFits l) COUNT) (verdicts l) r in
+      p ∙ no-length m (cond (eqb (unless (countFits l) COUNT) 0) (badField (verdicts l)) 0) (length (planOf (forms l))) (λ z. true≢false (sym (accepted-before l r z) ∙ h))
+
+  pub plan-none : n ≡ 0 → accepted l ≡ false
+  plan-none z = by-test (accepted l) (λ h. absurd (omega (arith, taken-plan h .0, plan-length (forms l)))) (λ h. h)
+
+  pub plan-first : (n ≡ 0 → ⊥) → after ≡ compileMemory l plan → HasPlan l (take n after)
+  plan-first s q =
+      by-test (accepted l)
+      (λ h.
+      let w = taken-plan h in
+      record { layout = h; plan = sym (rw (q, w .1, w .0) (take-at (planOf (forms l)) (drop (length (planOf (forms l))) plan) (length (planOf (forms l))) refl)) })
+      (λ h. absurd (s (refused-plan h)))

@@ -8,3 +8,4 @@ pub mod Layouts
 pub mod Records
 pub mod Splitting
 pub mod Keeping
+pub mod Printing

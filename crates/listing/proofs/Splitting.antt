@@ -1,6 +1,6 @@
 -- The lines of an input, one after the other: what stands up to the next LF is a line, and the lines behind it are those of what follows;
 -- where no LF is left, what is left is the last line unless it is empty. Assumes nothing.
-use mathlib.Core.Path.{_≡_, refl, sym, _∙_}
+use mathlib.Core.Path.{_≡_, refl, sym, _∙_, ap}
 use mathlib.Core.Bool.{true, false}
 use mathlib.Core.List.{List, [], _∷_, _++_, append-assoc, append-nil}
 use Prim.Native.Nat.{ℕ, suc, _+_, _-_, _≤_, _<_}
@@ -8,13 +8,14 @@ use Prim.Native.Char.{code}
 use native.Mathlib.Nat.{add-zero}
 use native.Mathlib.Numerals.{add-one}
 use native.Mathlib.Omega.{arith}
-use lib.Dec.{eqb}
+use lib.Dec.{eqb, ltb}
 use lib.ListN.{length, getD, take, drop, length-drop, drop-of-length-le}
-use lib.Seq.{drop-cons, drop-drop}
-use borrow.Author.Tests.{ne-eqb}
+use lib.Seq.{drop-cons, drop-drop, take-all, getD-drop}
+use borrow.Author.Tests.{ne-eqb, ltb-true, ltb-false}
 use Rattle.rules.specs.Lister.{linesFrom}
 use Rattle.rules.proofs.Logic.{by-test}
 use Rattle.listing.specs.Lines.{toEnd}
+use Rattle.listing.specs.Program.{linesIn, layoutIn, Begins}
 
 -- where the walk stands, the end is as far as it was from the start
 module _ (s : List ℕ) (from at : ℕ) (e : at + toEnd (drop at s) ≡ from + toEnd (drop from s)) where
@@ -69,13 +70,60 @@ none sofar (b ∷ s) h =
     let w = end-more b s sofar e in
     rw (w .1) (none (sofar ++ (b ∷ [])) s (omega (arith, w .0)) ∙ rw (append-assoc sofar (b ∷ []) s)))
 
+-- a last line that isn't empty
+alone : (s : List ℕ) → 1 ≤ length s → linesFrom s [] ≡ s ∷ []
+unfolding linesFrom
+alone [] h = absurd (omega arith)
+alone (b ∷ s) h = refl
+
 -- The line that begins at `from`, with a LF ahead, and without.
 module _ (s : List ℕ) (from end : ℕ) (e : end ≡ from + toEnd (drop from s)) where
-  pub line-found : end < length s → linesFrom [] (drop from s) ≡ take (end - from) (drop from s) ∷ linesFrom [] (drop (end + 1) s)
+  line-found : end < length s → linesFrom [] (drop from s) ≡ take (end - from) (drop from s) ∷ linesFrom [] (drop (end + 1) s)
   line-found h =
       let n : end - from ≡ toEnd (drop from s) = omega arith in
       let m : end + 1 ≡ from + suc (toEnd (drop from s)) = omega arith in
       rw (n, m, ← drop-drop (suc (toEnd (drop from s))) from s) (found [] (drop from s) (simp length-drop (omega arith)))
 
-  pub line-none : length s ≤ end → linesFrom [] (drop from s) ≡ linesFrom (drop from s) []
+  line-none : length s ≤ end → linesFrom [] (drop from s) ≡ linesFrom (drop from s) []
   line-none h = none [] (drop from s) (simp length-drop (omega arith))
+
+  -- either way
+  line-next : from < length s → linesFrom [] (drop from s) ≡ take (end - from) (drop from s) ∷ linesFrom [] (drop (end + 1) s)
+  unfolding linesFrom
+  line-next h =
+      by-test (ltb end (length s)) (λ t. line-found (ltb-true end (length s) t))
+      (λ t.
+      let l = ltb-false end (length s) t in
+      line-none l ∙ alone (drop from s) (simp length-drop (omega arith)) ∙ rw (take-all (end - from) (drop from s) (simp length-drop (omega arith)), drop-of-length-le s {i = end + 1} (omega arith)))
+
+-- what stands from byte `at` to byte `end` is line k, and line k + 1 begins behind it
+pub record LineAt (s : List ℕ) (k at end : ℕ) : Type 0 where
+  pub inside : end ≤ length s
+  pub there : k < length (linesIn s)
+  pub is : getD (linesIn s) k [] ≡ take (end - at) (drop at s)
+  pub next : Begins s (k + 1) (end + 1)
+
+pub line-at : (s : List ℕ) (k at end : ℕ) → Begins s k at → at < length s → end ≡ at + toEnd (drop at s) → LineAt s k at end
+line-at s k at end b h e =
+    let ls = linesIn s in
+    let here : drop k ls ≡ take (end - at) (drop at s) ∷ linesIn (drop (end + 1) s) = sym b ∙ line-next s at end e h in
+    record {
+      inside = line-inside s at end (omega arith) e .1;
+      there = omega (arith, length-drop k ls, ap length here);
+      is = rw (add-zero k) at (sym (getD-drop k ls 0 [])) ∙ rw here;
+      next = rw here at (drop-drop 1 k ls);
+    }
+
+-- the layout line, with nothing in it where the input is empty
+pub layout-is : (s : List ℕ) (end : ℕ) → end ≡ 0 + toEnd (drop 0 s) → (take end s ≡ layoutIn s) × Begins s 1 (end + 1)
+unfolding linesFrom toEnd
+layout-is [] end e = (rw e, rw e)
+layout-is (b ∷ s) end e =
+    let w = line-at (b ∷ s) 0 0 end refl (omega arith) e in
+    let n : end - 0 ≡ end = omega arith in
+    (rw n at (sym (w .is)), w .next)
+
+-- at the input's end no line is left
+pub none-left : (s : List ℕ) (k at : ℕ) → Begins s k at → length s ≤ at → k ≤ length (linesIn s) → k ≡ length (linesIn s)
+unfolding linesFrom
+none-left s k at b h l = omega (arith, length-drop k (linesIn s), ap length (rw (drop-of-length-le s h) at b))

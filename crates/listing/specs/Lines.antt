@@ -1,5 +1,5 @@
 -- The text of each line of a listing, and what the lent memory holds afterwards, over all inputs. Assumes nothing.
-use Prim.Native.Nat.{ℕ, suc}
+use Prim.Native.Nat.{ℕ, suc, _+_, _*_}
 use Prim.Native.Char.{code}
 use mathlib.Core.Path.{_≡_}
 use mathlib.Core.Bool.{cond}
@@ -9,18 +9,20 @@ use lib.Dec.{leb, eqb}
 use lib.IntN.{ℤ, pos}
 use lib.ListN.{length, drop}
 use Rattle.rules.specs.Numbers.{PLAN}
-use Rattle.rules.specs.Layout.{forms, recordLength}
+use Rattle.rules.specs.Text.{mostSymbols}
+use Rattle.rules.specs.Layout.{mostPictures, forms, recordLength}
 use Rattle.rules.specs.Answers.{answer, compileAnswer, RecordReads, ByPlan}
 use Rattle.rules.specs.Lister.{decimal, signedDecimal, line, answerLine, recordLine}
 use Rattle.listing.specs.declared.Listed.{Listed}
 
--- no line is longer
+-- No line is longer (proofs/Texts.antt): three numbers of at most 20 digits with two commas, a comma and at most 21 characters a value,
+-- and the end.
 abbrev pub mostLine : ℕ
-mostLine = 767
+mostLine = 3 * 20 + 2 + 22 * mostPictures + 1
 
--- no plan of an accepted layout is longer
+-- No plan of an accepted layout is longer (plan-fits in proofs/Layouts.antt): the count, the headers, the count of two bytes and the positions.
 abbrev pub mostPlan : ℕ
-mostPlan = 2147
+mostPlan = 1 + 3 * mostPictures + 2 + mostPictures * mostSymbols
 
 -- A line stands before what was there; where the longest has no room, nothing is written and 0 answered.
 unfoldable pub lineLength : List ℕ → List ℕ → ℕ

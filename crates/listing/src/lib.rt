@@ -8,9 +8,10 @@ use words::put_line;
 ghost use mathlib.Core.Path.{_≡_};
 ghost use mathlib.Core.List.{_++_};
 ghost use Prim.Native.Nat.{_+_, _≤_};
+ghost use lib.Dec.{ltb};
 ghost use lib.ListN.{length, drop};
 ghost use Rattle.rules.specs.Answers.{compileMemory};
-ghost use Rattle.rules.specs.Lister.{overLimit};
+ghost use Rattle.rules.specs.Lister.{mostInput, overLimit};
 ghost use Rattle.listing.specs.Lines.{listedOf, layoutText, RecordLineIs, lineLength, lineMemory, keptIn, toEnd};
 
 // The longest line: three numbers, 32 values of at most 21 characters, the commas and the end.
@@ -18,6 +19,14 @@ pub const LINE: usize = 767;
 
 // The longest plan: 32 fields of 64 positions. With as many bytes lent no layout is refused for room.
 pub const PLAN: usize = 2147;
+
+// The record that the lister keeps.
+pub const RECORD: usize = 2048;
+
+const MOST_INPUT: usize = 65536;
+
+// One byte more than the limit, so that an input over the limit is noticed.
+pub const INPUT: usize = MOST_INPUT + 1;
 
 // The plan's length, 0 where the layout is refused; and the line's.
 pub struct Listed {
@@ -104,6 +113,13 @@ pub fn line_end(input: &[u8], from: usize) -> usize
         at += 1;
     }
     at
+}
+
+// Whether an input of n bytes is over the limit.
+pub fn is_over(n: usize) -> bool
+    ensures { λ r. ⌜ r ≡ ltb mostInput n ⌝ }
+{
+    MOST_INPUT < n
 }
 
 // The whole listing of an input over the limit.
