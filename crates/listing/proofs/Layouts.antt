@@ -9,7 +9,7 @@ use lib.Dec.{ltb, eqb}
 use lib.IntN.{ℤ, pos}
 use lib.ListN.{length, getD, take, drop, length-append}
 use lib.Seq.{take-at}
-use borrow.Author.Tests.{le-ltb, eqb-true, eqb-false}
+use borrow.Author.Tests.{le-ltb, eqb-true, eqb-false, eq-eqb, ne-eqb}
 use mir.Syntax.{w64}
 use mir.Val.{toZ}
 use mir.Facts.{toZ-pos}
@@ -72,6 +72,19 @@ answer-number : (n field length : ℕ) → answer n field length (pos 0) .number
 answer-number zero field length = refl
 answer-number (suc n) field length = refl
 
+-- the layout's line says 0 exactly where the layout is accepted
+pub layout-number : (l : List ℕ) → eqb (compileAnswer l (planOf (forms l)) .number) 0 ≡ accepted l
+unfolding compileAnswer answerOver compileNumber
+layout-number l =
+    let n = length (planOf (forms l)) in
+    let b = unless (countFits l) COUNT in
+    let r = when (ltb n n) ROOM in
+    let m = numberOver b (verdicts l) r in
+    rw (answer-number m (cond (eqb b 0) (badField (verdicts l)) 0) n)
+    (by-test (accepted l)
+    (λ h. rw h (eq-eqb m 0 (accepted-number l n (omega arith) h)))
+    (λ h. rw h (ne-eqb m 0 (λ z. true≢false (sym (accepted-before l r z) ∙ h)))))
+
 -- what is known once the layout has been compiled: the answer and the lent plan
 pub record Compiled (l : List ℕ) (a : Answer) (plan : List ℕ) : Type 0 where
   pub size : a .length ≡ 3 * length (forms l) + 3 + recordLength (forms l)
@@ -123,7 +136,7 @@ no-length zero field length h = absurd (h refl)
 no-length (suc n) field length h = refl
 
 -- What compiling leaves in the longest plan's room: the length 0 exactly where the layout is refused, else the plan, which stands first.
-module _ (l plan after : List ℕ) (n : ℕ) (room : mostPlan ≤ length plan) (p : n ≡ compileAnswer l plan .length) where
+module _ (l plan : List ℕ) (n : ℕ) (room : mostPlan ≤ length plan) (p : n ≡ compileAnswer l plan .length) where
   taken-plan : accepted l ≡ true → (n ≡ length (planOf (forms l))) × (compileMemory l plan ≡ planOf (forms l) ++ drop (length (planOf (forms l))) plan)
   unfolding compileAnswer answerOver compileMemory compileNumber
   taken-plan h =
@@ -135,16 +148,15 @@ module _ (l plan after : List ℕ) (n : ℕ) (room : mostPlan ≤ length plan) (
   unfolding compileAnswer answerOver
   refused-plan h =
       let r = when (ltb (length plan) (length (planOf (forms l)))) ROOM in
-      let m = numberOver (unless (countFits l) COUNT) (verdicts l) r in
-      p ∙ no-length m (cond (eqb (unless (countFits l) COUNT) 0) (badField (verdicts l)) 0) (length (planOf (forms l))) (λ z. true≢false (sym (accepted-before l r z) ∙ h))
+      let b = unless (countFits l) COUNT in
+      p ∙ no-length (numberOver b (verdicts l) r) (cond (eqb b 0) (badField (verdicts l)) 0) _ (λ z. true≢false (sym (accepted-before l r z) ∙ h))
 
   pub plan-none : n ≡ 0 → accepted l ≡ false
   plan-none z = by-test (accepted l) (λ h. absurd (omega (arith, taken-plan h .0, plan-length (forms l)))) (λ h. h)
 
-  pub plan-first : (n ≡ 0 → ⊥) → after ≡ compileMemory l plan → HasPlan l (take n after)
-  plan-first s q =
+  pub plan-first : (after : List ℕ) → (n ≡ 0 → ⊥) → after ≡ compileMemory l plan → HasPlan l (take n after)
+  plan-first after s q =
+      let b = planOf (forms l) in
       by-test (accepted l)
-      (λ h.
-      let w = taken-plan h in
-      record { layout = h; plan = sym (rw (q, w .1, w .0) (take-at (planOf (forms l)) (drop (length (planOf (forms l))) plan) (length (planOf (forms l))) refl)) })
+      (λ h. let w = taken-plan h in record { layout = h; plan = sym (rw (q, w .1, w .0) (take-at b (drop (length b) plan) (length b) refl)) })
       (λ h. absurd (s (refused-plan h)))

@@ -9,3 +9,5 @@ pub mod Records
 pub mod Splitting
 pub mod Keeping
 pub mod Printing
+pub mod Trying
+pub mod Joining

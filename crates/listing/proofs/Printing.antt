@@ -1,13 +1,14 @@
 -- What a program prints, from what the calls of this library leave: with the rooms long enough the line stands first in the lent memory, and
 -- it is that line of the input's listing. Assumes nothing.
-use mathlib.Core.Path.{_≡_, refl, _∙_, ap}
-use mathlib.Core.Bool.{true}
+use mathlib.Core.Path.{_≡_, refl, sym, _∙_, ap}
+use mathlib.Core.Bool.{Bool, true, false}
 use mathlib.Core.List.{List, [], _∷_}
 use Prim.Native.Nat.{ℕ, zero, suc, _≤_, _<_}
 use native.Mathlib.Omega.{arith}
+use lib.Dec.{ltb}
 use lib.ListN.{length, getD, take, drop}
-use lib.Seq.{take-at}
-use borrow.Author.Tests.{le-leb, lt-leb}
+use lib.Seq.{take-at, length-take-le}
+use borrow.Author.Tests.{ltb-true, ltb-false, le-leb, lt-leb}
 use Rattle.rules.specs.Layout.{accepted, forms, cut, HasPlan}
 use Rattle.rules.specs.Answers.{compileAnswer, compileMemory}
 use Rattle.rules.specs.Lister.{mostInput, overLimit}
@@ -18,20 +19,26 @@ use Rattle.listing.specs.Program.{linesIn, layoutIn, ListingLine, lineCo
 use Rattle.listing.proofs.Layouts.{layout-text, plan-none, plan-first}
 use Rattle.listing.proofs.Records.{record-line-of}
 
-pub line-first : (text out after : List ℕ) (r : ℕ) → mostLine ≤ length out → r ≡ lineLength text out → after ≡ lineMemory text out → take r after ≡ text
+line-first : (text out after : List ℕ) (r : ℕ) → mostLine ≤ length out → r ≡ lineLength text out → after ≡ lineMemory text out → take r after ≡ text
 unfolding lineLength lineMemory
 line-first text out after r h p q = rw (p, q, le-leb mostLine (length out) h) (take-at text (drop (length text) out) (length text) refl)
 
-some-line : (ls : List (List ℕ)) → accepted (getD ls 0 []) ≡ true → 1 ≤ length ls
+pub some-line : (ls : List (List ℕ)) → accepted (getD ls 0 []) ≡ true → 1 ≤ length ls
 unfolding forms cut
 some-line [] h = absurd (omega (arith, forms-count [] h .0))
 some-line (l ∷ ls) h = omega arith
 
--- Line 0 of an input over the limit, and there is no other.
-pub over-printed : (s out after : List ℕ) (r : ℕ) → mostInput < length s → mostLine ≤ length out → r ≡ lineLength overLimit out → after ≡ lineMemory overLimit out
-    → ListingLine s 0 (take r after) × (1 ≡ lineCount s)
-unfolding lineCount
-over-printed s out after r h room p q = rw (lt-leb (length s) mostInput h) ((refl, line-first overLimit out after r room p q), refl)
+-- Of the first n bytes read, which are over the limit where the test says so, line 0, and there is no other.
+module _ (n : ℕ) (input : List ℕ) (over : Bool) (l : n ≤ length input) (t : over ≡ ltb mostInput n) where
+  pub within : over ≡ false → length (take n input) ≤ mostInput
+  within f = omega (arith, length-take-le n input l, ltb-false mostInput n (sym t ∙ f))
+
+  pub over-printed : (out after : List ℕ) (r : ℕ) → over ≡ true → mostLine ≤ length out → r ≡ lineLength overLimit out → after ≡ lineMemory overLimit out
+      → ListingLine (take n input) 0 (take r after) × (1 ≡ lineCount (take n input))
+  unfolding lineCount
+  over-printed out after r f room p q =
+      let h : mostInput < length (take n input) = omega (arith, length-take-le n input l, ltb-true mostInput n (sym t ∙ f)) in
+      rw (lt-leb (length (take n input)) mostInput h) ((refl, line-first overLimit out after r room p q), refl)
 
 -- Line 0, the layout's. What compiling has left says whether there are others, and is then the layout's plan.
 module _ (s l plan out : List ℕ) (r : Listed) (h : length s ≤ mostInput) (wide : mostPlan ≤ length plan) (e : l ≡ layoutIn s) (a : r ≡ listedOf l plan out) where
@@ -42,14 +49,15 @@ module _ (s l plan out : List ℕ) (r : Listed) (h : length s ≤ mostInput) (wi
   pub layout-printed : (after : List ℕ) → mostLine ≤ length out → after ≡ lineMemory (layoutText l plan) out → ListingLine s 0 (take (r .line) after)
   unfolding listedOf
   layout-printed after room q =
-      rw (le-leb (length s) mostInput h) (line-first (layoutText l plan) out after (r .line) room (ap (λ (x : Listed). x .line) a) q ∙ layout-text l plan wide ∙ rw e)
+      let t = line-first (layoutText l plan) out after (r .line) room (ap (λ (x : Listed). x .line) a) q in
+      rw (le-leb (length s) mostInput h) (t ∙ layout-text l plan wide ∙ rw e)
 
   pub layout-refused : r .plan ≡ 0 → 1 ≡ lineCount s
   unfolding lineCount
-  layout-refused z = rw (le-leb (length s) mostInput h, ← e, plan-none l plan [] (r .plan) wide compiled-length z)
+  layout-refused z = rw (le-leb (length s) mostInput h, ← e, plan-none l plan (r .plan) wide compiled-length z)
 
   pub layout-taken : (after : List ℕ) → (r .plan ≡ 0 → ⊥) → after ≡ compileMemory l plan → HasPlan (layoutIn s) (take (r .plan) after)
-  layout-taken after z q = rw (← e) (plan-first l plan after (r .plan) wide compiled-length z q)
+  layout-taken after z q = rw (← e) (plan-first l plan (r .plan) wide compiled-length after z q)
 
 -- Line k, that of record k by the plan of the input's layout. There is one for each of the input's lines.
 module _ (s plan : List ℕ) (h : length s ≤ mostInput) (p : HasPlan (layoutIn s) plan) where

@@ -39,7 +39,7 @@ to-end-le [] = omega arith
 to-end-le (b ∷ s) = let h = to-end-le s in by-test (eqb b (code "\n")) (λ e. rw e (omega arith)) (λ e. rw e (omega arith))
 
 -- the end lies in the input
-pub line-inside : (s : List ℕ) (from end : ℕ) → from ≤ length s → end ≡ from + toEnd (drop from s) → (from ≤ end) × (end ≤ length s)
+line-inside : (s : List ℕ) (from end : ℕ) → from ≤ length s → end ≡ from + toEnd (drop from s) → (from ≤ end) × (end ≤ length s)
 line-inside s from end h e = let k = simp length-drop at (to-end-le (drop from s)) in (omega arith, omega arith)
 
 -- Byte by byte.
@@ -94,7 +94,8 @@ module _ (s : List ℕ) (from end : ℕ) (e : end ≡ from + toEnd (drop from s)
       by-test (ltb end (length s)) (λ t. line-found (ltb-true end (length s) t))
       (λ t.
       let l = ltb-false end (length s) t in
-      line-none l ∙ alone (drop from s) (simp length-drop (omega arith)) ∙ rw (take-all (end - from) (drop from s) (simp length-drop (omega arith)), drop-of-length-le s {i = end + 1} (omega arith)))
+      let whole = take-all (end - from) (drop from s) (simp length-drop (omega arith)) in
+      line-none l ∙ alone (drop from s) (simp length-drop (omega arith)) ∙ rw (whole, drop-of-length-le s {i = end + 1} (omega arith)))
 
 -- what stands from byte `at` to byte `end` is line k, and line k + 1 begins behind it
 pub record LineAt (s : List ℕ) (k at end : ℕ) : Type 0 where
@@ -114,14 +115,19 @@ line-at s k at end b h e =
       next = rw here at (drop-drop 1 k ls);
     }
 
--- the layout line, with nothing in it where the input is empty
-pub layout-is : (s : List ℕ) (end : ℕ) → end ≡ 0 + toEnd (drop 0 s) → (take end s ≡ layoutIn s) × Begins s 1 (end + 1)
+-- What stands up to byte `end` is the layout line, with nothing in it where the input is empty, and line 1 begins behind it.
+pub record LayoutAt (s : List ℕ) (end : ℕ) : Type 0 where
+  pub inside : end ≤ length s
+  pub is : take end s ≡ layoutIn s
+  pub next : Begins s 1 (end + 1)
+
+pub layout-at : (s : List ℕ) (end : ℕ) → end ≡ 0 + toEnd (drop 0 s) → LayoutAt s end
 unfolding linesFrom toEnd
-layout-is [] end e = (rw e, rw e)
-layout-is (b ∷ s) end e =
+layout-at [] end e = record { inside = omega arith; is = rw e; next = rw e }
+layout-at (b ∷ s) end e =
     let w = line-at (b ∷ s) 0 0 end refl (omega arith) e in
     let n : end - 0 ≡ end = omega arith in
-    (rw n at (sym (w .is)), w .next)
+    record { inside = w .inside; is = rw n at (sym (w .is)); next = w .next }
 
 -- at the input's end no line is left
 pub none-left : (s : List ℕ) (k at : ℕ) → Begins s k at → length s ≤ at → k ≤ length (linesIn s) → k ≡ length (linesIn s)

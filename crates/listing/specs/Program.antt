@@ -3,7 +3,7 @@
 use Prim.Native.Nat.{ℕ, zero, suc, _<_}
 use mathlib.Core.Path.{_≡_}
 use mathlib.Core.Bool.{true, cond, _&&_}
-use mathlib.Core.List.{List, []}
+use mathlib.Core.List.{List, [], _∷_}
 use mathlib.Core.Option.{Option}
 use lib.Dec.{leb}
 use lib.IntN.{ℤ}
@@ -51,3 +51,8 @@ ListingLine s k text = cond (leb (length s) mostInput) (LineIn s k text) ((k ≡
 -- how many lines the listing has
 unfoldable pub lineCount : List ℕ → ℕ
 lineCount s = cond (leb (length s) mostInput && accepted (layoutIn s)) (length (linesIn s)) 1
+
+-- these are the lines of the listing from line k on
+abbrev pub Listing : List ℕ → ℕ → List (List ℕ) → Type 0
+Listing s k [] = k ≡ lineCount s
+Listing s k (t ∷ ts) = ListingLine s k t × Listing s (suc k) ts

@@ -14,12 +14,14 @@ use Rattle.lister.proofs.list_records.Tie as tie
 
 abbrev Inv-loop : tie.InvT-loop
 Inv-loop input from plan record₀ out₀ at₀ k₀ «record» out at k =
-    Begins input k at × (1 ≤ k) × (k ≤ length (linesIn input)) × (k ≤ at + 1) × (length «record» ≡ length record₀) × (length out ≡ length out₀)
+    Begins input k at × (1 ≤ k) × (k ≤ length (linesIn input)) × (k ≤ at + 1)
+    × (length «record» ≡ length record₀) × (length out ≡ length out₀)
 
 abbrev μ-loop : tie.MeasureT-loop
 μ-loop input from plan record₀ out₀ at₀ k₀ «record» out at k = length input - at
 
-line : (c : tie.After-line-end Inv-loop μ-loop) → LineAt (c .before .before .before .before .before .before .before .args .input .now) (c .before .before .loop .k) (c .before .before .loop .at) (c .line-end .result)
+line : (c : tie.After-line-end Inv-loop μ-loop)
+    → LineAt (c .before .before .before .before .before .before .before .args .input .now) (c .before .before .loop .k) (c .before .before .loop .at) (c .line-end .result)
 line c = line-at _ _ _ _ (c .before .before .loop .inv .0) (omega arith) (c .line-end .ensures)
 
 loop-holds : tie.Need-loop-holds Inv-loop μ-loop
@@ -35,22 +37,25 @@ slice-aggregate-print-line c = sym (length-take-le _ _ (c .before .before .befor
 
 print-line-requires : tie.Need-print-line-requires Inv-loop μ-loop
 print-line-requires c κs =
-    let l = line (c .before .before .before .before .before .before .before .before .before) in
-    let p = c .before .before .before .before .before .before .before .before .before .before .before .before .before .before .before .before .pre in
-    let v = c .before .before .before .before .before .before .before .before .before .before .before .loop in
-    record-printed _ _ (p .0 .0) (p .1 .0) _ _ (v .out) _ _ (v .inv .1) (l .there) (l .is) (omega arith) (c .before .before .before .before .before .kept-line .ensures .0)
+    let a = c .before .before .before .before .before .before .before .before .before in
+    let p = a .before .before .before .before .before .before .before .pre in
+    let v = a .before .before .loop in
+    let e = c .before .before .before .before .before .kept-line .ensures .0 in
+    record-printed _ _ (p .0 .0) (p .1 .0) _ _ (v .out) _ _ (v .inv .1) (line a .there) (line a .is) (omega arith) e
 
 add-at : tie.Need-add-at Inv-loop μ-loop
 add-at c = let h = line (c .before .before .before .before .before .before .before .before .before .before) .inside in search needs
 
 loop-again : tie.Need-loop-again Inv-loop μ-loop
-loop-again c = let l = line (c .before .before .before .before .before .before .before .before .before .before) in (l .next, omega arith, omega (arith, l .there), omega arith, search needs, search needs)
+loop-again c =
+    let l = line (c .before .before .before .before .before .before .before .before .before .before) in
+    (l .next, omega arith, omega (arith, l .there), omega arith, search needs, search needs)
 
 returns : tie.Need-returns Inv-loop μ-loop
 returns c =
-    let v = c .before .loop .inv in
-    let p = c .before .before .before .before .before .before .pre in
-    none-left (c .before .before .before .before .before .before .args .input .now) _ (c .before .loop .at) (v .0) (omega arith) (v .2) ∙ count-taken _ _ (p .0 .0) (p .1 .0)
+    let v = c .before .loop in
+    let a = c .before .before .before .before .before .before in
+    none-left (a .args .input .now) _ (v .at) (v .inv .0) (omega arith) (v .inv .2) ∙ count-taken _ _ (a .pre .0 .0) (a .pre .1 .0)
 
 pub list-records-spec : {M : Type 1} → statement M
 list-records-spec =
