@@ -41,7 +41,8 @@ module _ (n : ℕ) (input : List ℕ) (over : Bool) (l : n ≤ length input) (t 
       rw (lt-leb (length (take n input)) mostInput h) ((refl, line-first overLimit out after r room p q), refl)
 
 -- Line 0, the layout's. What compiling has left says whether there are others, and is then the layout's plan.
-module _ (s l plan out : List ℕ) (r : Listed) (h : length s ≤ mostInput) (wide : mostPlan ≤ length plan) (e : l ≡ layoutIn s) (a : r ≡ listedOf l plan out) where
+module _ (s l plan out : List ℕ) (r : Listed) (h : length s ≤ mostInput) (wide : mostPlan ≤ length plan) (e : l ≡ layoutIn s)
+    (a : r ≡ listedOf l plan out) where
   compiled-length : r .plan ≡ compileAnswer l plan .length
   unfolding listedOf
   compiled-length = ap (λ (x : Listed). x .plan) a

@@ -55,7 +55,8 @@ module _ (φ : Form) (f : List ℕ) where
   unfolding inRange
   in-range m e = ltb-true _ _ (both (ltb (natAbs m) (10 ^ mostDigits)) _ (e .value) .0)
 
-  none-of : ((n : ℕ) → n < 10 ^ mostDigits → edits (pos n) ≡ false) → ((n : ℕ) → n < 10 ^ mostDigits → edits (negsuc n) ≡ false) → (m : ℤ) → Edits φ m (places φ) f → ⊥
+  none-of : ((n : ℕ) → n < 10 ^ mostDigits → edits (pos n) ≡ false) → ((n : ℕ) → n < 10 ^ mostDigits → edits (negsuc n) ≡ false)
+      → (m : ℤ) → Edits φ m (places φ) f → ⊥
   none-of g h (pos n) e = true≢false (sym (edits-some (pos n) e) ∙ g n (in-range (pos n) e))
   none-of g h (negsuc n) e = true≢false (sym (edits-some (negsuc n) e) ∙ h n (omega (arith, in-range (negsuc n) e)))
 

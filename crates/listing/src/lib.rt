@@ -6,7 +6,6 @@ mod words; // words.rt: the words of a line
 
 use words::put_line;
 ghost use mathlib.Core.Path.{_≡_};
-ghost use mathlib.Core.List.{_++_};
 ghost use Prim.Native.Nat.{_+_, _≤_};
 ghost use lib.Dec.{ltb};
 ghost use lib.ListN.{length, drop};
@@ -76,16 +75,6 @@ pub fn record_line(k: usize, plan: &[u8], record: &[u8], out: &mut [u8]) -> usiz
     )
 }
 
-// The line's bytes into the record's first places.
-fn copy(line: &[u8], record: &mut [u8])
-    requires { ⌜ length (now line) ≤ length (now «record») ⌝ }
-    ensures { λ _. ⌜ now («record» .exit) ≡ now (line .entry) ++ drop (length (now (line .entry))) (now («record» .entry)) ⌝ }
-{
-    for i in 0..line.len() {
-        record[i] = line[i];
-    }
-}
-
 // The line of record number k, kept in `record` while it is read. A line that is longer than `record` is not cut: it is read where it
 // stands.
 pub fn kept_line(k: usize, plan: &[u8], line: &[u8], record: &mut [u8], out: &mut [u8]) -> usize
@@ -97,7 +86,7 @@ pub fn kept_line(k: usize, plan: &[u8], line: &[u8], record: &mut [u8], out: &mu
     if record.len() < n {
         return record_line(k, plan, line, out);
     }
-    copy(line, record);
+    copying::put(line, record, 0);
     record_line(k, plan, &record[..n], out)
 }
 

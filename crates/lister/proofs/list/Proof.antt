@@ -29,13 +29,19 @@ returns : tie.Need-returns
 returns c =
     let a = c .before .before .before .before .before .before .before .before .before .before .before .before in
     let p = a .before .before .before .before .before .pre in
-    layout-refused _ _ _ _ _ (p .0) (p .1 .0) (line a .is) (c .before .before .before .before .before .before .before .before .layout-line .ensures .0) (omega arith)
+    let e = c .before .before .before .before .before .before .before .before .layout-line .ensures in
+    layout-refused _ _ _ _ _ (p .0) (p .1 .0) (line a .is) (e .0) (omega arith)
 
 add-list-records : tie.Need-add-list-records
-add-list-records c = let h = line (c .before .before .before .before .before .before .before .before .before .before .before .before) .inside in search needs
+add-list-records c =
+    let a = c .before .before .before .before .before .before .before .before .before .before .before .before in
+    let h = line a .inside in
+    search needs
 
 slice-aggregate-list-records : tie.Need-slice-aggregate-list-records
-slice-aggregate-list-records c = let a = c .before .before .before .before .before .before .before .before .before in sym (length-take-le _ _ (a .layout-line .ensures .1 .1 .1 .0))
+slice-aggregate-list-records c =
+    let e = c .before .before .before .before .before .before .before .before .before .layout-line .ensures in
+    sym (length-take-le _ _ (e .1 .1 .1 .0))
 
 list-records-requires : tie.Need-list-records-requires
 list-records-requires c κs =

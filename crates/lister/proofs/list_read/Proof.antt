@@ -10,7 +10,9 @@ use Rattle.lister.proofs.list_read.Statement.{statement}
 use Rattle.lister.proofs.list_read.Tie as tie
 
 slice-aggregate-print-line : tie.Need-slice-aggregate-print-line
-slice-aggregate-print-line c = let a = c .before .before .before .before .before .before .before .before .before .before .before in sym (length-take-le _ _ (a .pre .0 .1))
+slice-aggregate-print-line c =
+    let p = c .before .before .before .before .before .before .before .before .before .before .before .pre in
+    sym (length-take-le _ _ (p .0 .1))
 
 slice-aggregate-print-line-2 : tie.Need-slice-aggregate-print-line-2
 slice-aggregate-print-line-2 c = sym (length-take-le _ _ (c .before .before .before .before .over-line .ensures .1 .1))
@@ -20,14 +22,16 @@ print-line-requires c κs =
     let a = c .before .before .before .before .before .before .before in
     let b = a .before .before .before .before .before in
     let e = c .before .before .before .before .over-line .ensures in
-    over-printed _ _ _ (b .pre .0 .1) (a .is-over .ensures) _ _ _ (c .before .before .before .before .before .before .if1 .taken) (b .pre .1 .2) (e .0) (e .1 .0) .0
+    let t = c .before .before .before .before .before .before .if1 .taken in
+    over-printed _ _ _ (b .pre .0 .1) (a .is-over .ensures) _ _ _ t (b .pre .1 .2) (e .0) (e .1 .0) .0
 
 returns : tie.Need-returns
 returns c =
     let a = c .before .before .before .before .before .before .before .before in
     let b = a .before .before .before .before .before in
     let e = c .before .before .before .before .before .over-line .ensures in
-    over-printed _ _ _ (b .pre .0 .1) (a .is-over .ensures) _ _ _ (c .before .before .before .before .before .before .before .if1 .taken) (b .pre .1 .2) (e .0) (e .1 .0) .1
+    let t = c .before .before .before .before .before .before .before .if1 .taken in
+    over-printed _ _ _ (b .pre .0 .1) (a .is-over .ensures) _ _ _ t (b .pre .1 .2) (e .0) (e .1 .0) .1
 
 slice-aggregate-list : tie.Need-slice-aggregate-list
 slice-aggregate-list c = sym (length-take-le _ _ (c .before .before .before .before .before .before .before .pre .0 .1))

@@ -21,7 +21,8 @@ abbrev μ-loop : tie.MeasureT-loop
 μ-loop input from plan record₀ out₀ at₀ k₀ «record» out at k = length input - at
 
 line : (c : tie.After-line-end Inv-loop μ-loop)
-    → LineAt (c .before .before .before .before .before .before .before .args .input .now) (c .before .before .loop .k) (c .before .before .loop .at) (c .line-end .result)
+    → LineAt (c .before .before .before .before .before .before .before .args .input .now)
+    (c .before .before .loop .k) (c .before .before .loop .at) (c .line-end .result)
 line c = line-at _ _ _ _ (c .before .before .loop .inv .0) (omega arith) (c .line-end .ensures)
 
 loop-holds : tie.Need-loop-holds Inv-loop μ-loop

@@ -16,27 +16,24 @@ slice-aggregate-record-line : tie.Need-slice-aggregate-record-line
 slice-aggregate-record-line c =
     let s = c .before .before .before in
     let a = s .before .before .before .before .before .before .before .args in
-    sym (ap length (kept-line (a .line .now) (a .«record» .now) _ (s .copy .ensures)))
+    sym (ap length (kept-line (a .line .now) (a .«record» .now) _ (s .put .ensures) (s .before .before .if1 .left)))
 
 returns-2 : tie.Need-returns-2
 returns-2 c =
     let s = c .before .before .before .before .before .before .before in
     let a = s .before .before .before .before .before .before .before .args in
-    let e = s .copy .ensures in
+    let e = s .put .ensures in
+    let h = s .before .before .if1 .left in
     let w = c .before .before .record-line2 .ensures in
-    (rw (kept-line (a .line .now) (a .«record» .now) _ e) at (w .0), (e ∙ kept-in _ _ (s .before .before .if1 .left), w .1))
+    (rw (kept-line (a .line .now) (a .«record» .now) _ e h) at (w .0), (e ∙ kept-in _ _ h, w .1))
 
 pub kept-line-spec : {M : Type 1} → statement M
 kept-line-spec =
     tie.close
     (tie.spec
-    (λ c κs. search needs)
-    (λ c. search needs)
+    (λ c κs. search needs) (λ c. search needs)
     returns
-    (λ c κs. search needs)
-    (λ c. search needs)
+    (λ c κs. search needs) (λ c. search needs)
     slice-aggregate-record-line
-    (λ c κs. search needs)
-    (λ c. search needs)
-    (λ c. search needs)
+    (λ c κs. search needs) (λ c. search needs) (λ c. search needs)
     returns-2)

@@ -32,7 +32,6 @@ line-end-spec =
     (λ c. refl)
     (λ c. search needs)
     returns
-    (λ c. search needs)
-    (λ c. search needs)
+    (λ c. search needs) (λ c. search needs)
     loop-again
     returns-2)
