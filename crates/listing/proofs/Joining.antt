@@ -1,22 +1,20 @@
 -- The lines of a listing, each once and in order, are the listing: behind the layout's line each record's line is what `recordLines` joins, and
 -- where the layout is refused there is no other line. Assumes nothing.
-use mathlib.Core.Path.{_≡_, refl, sym, _∙_, ap}
+use mathlib.Core.Path.{_≡_, refl, sym, _∙_}
 use mathlib.Core.Bool.{true, false, true≢false}
 use mathlib.Core.List.{List, [], _∷_, _++_, append-nil, flatten}
 use mathlib.Core.Option.{Option}
-use Prim.Native.Nat.{ℕ, zero, suc, _≤_}
+use Prim.Native.Nat.{ℕ, suc, _≤_}
 use native.Mathlib.Omega.{arith}
 use lib.Dec.{leb}
 use lib.IntN.{ℤ}
-use lib.ListN.{length, getD, drop, drop-of-length-le}
+use lib.ListN.{length, drop, drop-of-length-le}
 use lib.Seq.{drop-cons}
 use Rattle.rules.specs.Layout.{accepted, forms}
-use Rattle.rules.specs.Lister.{mostInput, layoutLine, recordLines, AllRead, listed, ListsLines, Lists, overLimit}
+use Rattle.rules.specs.Lister.{mostInput, layoutLine, recordLines, AllRead, ListsLines, Lists, overLimit}
 use Rattle.rules.proofs.Logic.{by-test}
-use Rattle.listing.specs.Program.{linesIn, layoutIn, LineIn, RecordLineIn, lineCount, Listing}
-use Rattle.listing.proofs.Layouts.{layout-number}
+use Rattle.listing.specs.Program.{linesIn, layoutIn, RecordLineIn, lineCount, Listing}
 use Rattle.listing.proofs.Printing.{some-line}
-use Rattle.listing.proofs.Trying.{all-read}
 
 -- Over the limit.
 over : (s : List ℕ) (ts : List (List ℕ)) → leb (length s) mostInput ≡ false → Listing s 0 ts → flatten ts ≡ overLimit
@@ -27,15 +25,6 @@ over s (t ∷ u ∷ ts) h w = let z = (rw h at (w .1 .0)) .0 in absurd (omega ar
 
 join : {a b c d : List ℕ} → a ≡ b → c ≡ d → a ++ c ≡ b ++ d
 join p q = rw (p, q)
-
-module _ (l : List ℕ) (recs : List (List ℕ)) (oss : List (List (Option ℤ))) {t : List ℕ} where
-  taken : {rest : List ℕ} → accepted l ≡ true → t ≡ layoutLine l → rest ≡ recordLines (forms l) 1 recs oss → t ++ rest ≡ listed l recs oss
-  unfolding listed
-  taken a p q = rw (layout-number l, a) (join p q)
-
-  refused : accepted l ≡ false → t ≡ layoutLine l → t ++ [] ≡ listed l recs oss
-  unfolding listed
-  refused a p = rw (layout-number l, a) (join p refl)
 
 -- Within it.
 module _ (s : List ℕ) (h : leb (length s) mostInput ≡ true) where
@@ -67,10 +56,8 @@ module _ (s : List ℕ) (h : leb (length s) mostInput ≡ true) where
   lines (l ∷ recs) t ts e w =
       let p : t ≡ layoutLine (layoutIn s) = rw h at (w .0) in
       by-test (accepted (layoutIn s))
-      (λ a. let more = rw e at (records 0 ts a (w .1)) in (more .0, more .1, taken l recs (more .0) (rw e at a) (rw e at p) (more .2)))
-      (λ a.
-      let any = all-read (forms l) recs in
-      (any .0, any .1, rw (no-records 0 ts a (w .1)) (refused l recs (any .0) (rw e at a) (rw e at p))))
+      (λ a. let b : accepted l ≡ true = rw e at a in let more = rw e at (records 0 ts a (w .1)) in rw b (more .0, more .1, join (rw e at p) (more .2)))
+      (λ a. let b : accepted l ≡ false = rw e at a in rw (b, no-records 0 ts a (w .1)) (append-nil t ∙ rw e at p))
 
 some-count : (s : List ℕ) → 1 ≤ lineCount s
 unfolding lineCount

@@ -9,5 +9,4 @@ pub mod Records
 pub mod Splitting
 pub mod Keeping
 pub mod Printing
-pub mod Trying
 pub mod Joining

@@ -10,9 +10,9 @@ use Rattle.rules.specs.Words.{text}
 use Rattle.rules.specs.Lister.{Lists, ListsLines, linesFrom, mostInput, overLimit}
 use Rattle.rules.specs.Sheet.{All, others, sheet}
 use Rattle.rules.specs.Lines
-use Rattle.rules.proofs.Holding.{all-hold, definitions}
+use Rattle.rules.proofs.Holding.{all-hold, all-join, definitions}
 
--- The sheet's lines marked P, and its others.
+-- The customers' lines, those of which they ask a proof and the others.
 
 pub proved : All sheet
 unfolding definitions
@@ -22,7 +22,7 @@ pub others-hold : All others
 unfolding definitions
 others-hold = all-hold others refl
 
--- Our own, by subject.
+-- Our own, by subject, and as one list.
 
 pub statics-hold : All Lines.statics
 unfolding definitions
@@ -103,6 +103,9 @@ runs-hold = all-hold Lines.runs refl
 pub listings-hold : All Lines.listings
 unfolding definitions
 listings-hold = all-hold Lines.listings refl
+
+pub ours-hold : All Lines.ours
+ours-hold = all-join _ _ statics-hold (all-join _ _ drifting-hold (all-join _ _ insertions-hold (all-join _ _ digits-hold (all-join _ _ blanks-hold (all-join _ _ alignment-hold (all-join _ _ readings-hold (all-join _ _ texts-hold (all-join _ _ suppressions-hold (all-join _ _ placements-hold (all-join _ _ limits-hold (all-join _ _ values-hold (all-join _ _ layouts-hold (all-join _ _ memory-hold (all-join _ _ orders-hold (all-join _ _ plan-orders-hold (all-join _ _ plans-hold (all-join _ _ no-plans-hold (all-join _ _ runs-hold listings-hold))))))))))))))))))
 
 -- An input of over 65,536 bytes gives one line; of any other the lines are listed.
 

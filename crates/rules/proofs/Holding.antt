@@ -1,26 +1,26 @@
 -- When a line of the sheet holds: where what the definitions make of it, computed, is what it says. Reading goes by the candidate, which
 -- reading's exactness makes the answer. Assumes nothing.
 use mathlib.Core.Path.{_≡_, refl, sym, ap}
-use mathlib.Core.Bool.{Bool, true, false, _&&_}
-use mathlib.Core.List.{List, [], _∷_, map}
+use mathlib.Core.Bool.{Bool, true, false, cond}
+use mathlib.Core.List.{List, [], _∷_, _++_, map}
 use mathlib.Core.Option.{Option}
 use Prim.Native.Nat.{ℕ}
 use lib.IntN.{ℤ, pos}
 use lib.Dec.{leb}
-use lib.ListN.{length, getD, replicate, take, drop}
+use lib.ListN.{length, getD, replicate, drop}
 use Rattle.rules.specs.Words.{any, count, has, place, same, text, times}
 use Rattle.rules.specs.Search.{each, first, upTo}
 use Rattle.rules.specs.Numbers.{badField, firstOf}
 use Rattle.rules.specs.Text.{copies, expandFrom, next, roomOf, textFits}
 use Rattle.rules.specs.Roles.{drifts, driftsSign, isDigit, isFirstDrifting, isNine, isSign, isStatic, isSuppressible, opens}
-use Rattle.rules.specs.Form.{Form, formOf, kindUpTo, meaning, number, numbers, rolesFrom, size, suppresses}
+use Rattle.rules.specs.Form.{Form, formOf, kindUpTo, meaning, number, numbers, rolesFrom, suppresses}
 use Rattle.rules.specs.Shape.{digitsFit, drifting, driftsBeforeV, formShape, ninesLast, oneDrifts, oneSign, oneV, pictureOf, places, shape, staticsPlaced, suppressedPlaces, suppressionApart, verdict, whole}
 use Rattle.rules.specs.Digits.{digitsOf, valueOf}
 use Rattle.rules.specs.Edit.{aligned, allSuppressible, cell, cellAt, digitAt, digitChar, driftsTo, edited, field, fill, firstShown, hasSign, inRange, inStretch, isBlank, isMinus, isShown, mark, opening, printed, start, suppressed, tooBig}
 use Rattle.rules.specs.Layout.{HasPlan, accepted, closes, countFits, cut, forms, headers, planOf, positions, recordLength}
-use Rattle.rules.specs.Answers.{ReadIs, RecordReads, answer, answerOver, as-layout, checkAnswer, compileAnswer, compileMemory, compileNumber, editAnswer, editMemory, editNumber, editVerdicts, lentAfter, no-plan, numberOver, readAnswer, readBefore, recordAnswer, recordOf, rowAfter, rowAnswer, rowNumber, said}
+use Rattle.rules.specs.Answers.{ReadIs, answer, answerOver, as-layout, checkAnswer, compileAnswer, compileMemory, compileNumber, editAnswer, editMemory, editNumber, editVerdicts, lentAfter, no-plan, numberOver, readAnswer, readBefore, recordAnswer, recordOf, rowAfter, rowAnswer, rowNumber, said}
 use Rattle.rules.specs.Collector.{bitsOf, bytesOf, intIn, intOf, leBytes, leValue, packed, readRunNumber, rowBytes, rowIn}
-use Rattle.rules.specs.Lister.{AllRead, Lists, ListsLines, answerLine, decimal, layoutLine, line, linesFrom, listed, mostInput, recordLine, recordLines, trimmed}
+use Rattle.rules.specs.Lister.{AllRead, Lists, ListsLines, answerLine, decimal, layoutLine, line, linesFrom, mostInput, recordLine, recordLines, trimmed}
 use Rattle.rules.specs.Good.{bears, fitsRoom, good, inOrder, marksLast, oneDollar, plainNumber, wellMade}
 use Rattle.rules.specs.Candidate.{digitIn, minusFits, readAll, readOf, shownIn, worthOf}
 use Rattle.rules.specs.PlanBytes.{allGood, formsFrom, formsIn, isPlan}
@@ -28,44 +28,29 @@ use Rattle.rules.specs.Sheet.{All, Holds, Line, edits, refuses, editsInt
 use Rattle.rules.specs.declared.Answer.{Answer}
 use Rattle.rules.proofs.Exact.{reads-of}
 use Rattle.rules.proofs.Forms.{accepted-good, good-parts}
-use Rattle.rules.proofs.Logic.{both}
+use Rattle.rules.proofs.Logic.{by-test}
 use Rattle.rules.proofs.Outcomes.{all-read, read-is}
 use Rattle.rules.proofs.Plans.{forms-good, no-layout}
-
--- every form has 1 to 15 digits, so that the candidate decides what its fields say
-unfoldable pub allFit : List Form → Bool
-allFit [] = true
-allFit (φ ∷ φs) = digitsFit φ && allFit φs
-
-record-reads : (φs : List Form) (rec : List ℕ) → allFit φs ≡ true → RecordReads φs rec (readAll φs rec)
-unfolding allFit readAll
-record-reads [] rec h = tt
-record-reads (φ ∷ φs) rec h =
-    let w = both (digitsFit φ) (allFit φs) h in
-    (reads-of φ (take (size φ) rec) (w .0), record-reads φs (drop (size φ) rec) (w .1))
 
 -- what the candidate says of each record
 abbrev pub readEach : List Form → List (List ℕ) → List (List (Option ℤ))
 readEach φs [] = []
 readEach φs (rec ∷ recs) = readAll φs rec ∷ readEach φs recs
 
-read-each : (φs : List Form) (recs : List (List ℕ)) → allFit φs ≡ true → AllRead φs recs (readEach φs recs)
+read-each : (φs : List Form) (recs : List (List ℕ)) → allGood φs ≡ true → AllRead φs recs (readEach φs recs)
 read-each φs [] h = tt
-read-each φs (rec ∷ recs) h = (record-reads φs rec h, read-each φs recs h)
+read-each φs (rec ∷ recs) h = (all-read φs rec h, read-each φs recs h)
 
--- the listing of these lines, and that every form of their layout has digits
+-- the listing of these lines
 unfoldable pub listingOf : List (List ℕ) → List ℕ
 listingOf [] = layoutLine []
-listingOf (l ∷ recs) = listed l recs (readEach (forms l) recs)
+listingOf (l ∷ recs) = cond (accepted l) (layoutLine l ++ recordLines (forms l) 1 recs (readEach (forms l) recs)) (layoutLine l)
 
-unfoldable pub layoutFits : List (List ℕ) → Bool
-layoutFits [] = true
-layoutFits (l ∷ recs) = allFit (forms l)
-
-lists-lines : (ls : List (List ℕ)) (out : List ℕ) → layoutFits ls ≡ true → listingOf ls ≡ out → ListsLines ls out
-unfolding listingOf layoutFits
-lists-lines [] out h e = rw (← e)
-lists-lines (l ∷ recs) out h e = rw (← e) (readEach (forms l) recs, read-each (forms l) recs h, refl)
+lists-lines : (ls : List (List ℕ)) → ListsLines ls (listingOf ls)
+unfolding listingOf
+lists-lines [] = refl
+lists-lines (l ∷ recs) =
+    by-test (accepted l) (λ h. rw h (readEach (forms l) recs, read-each (forms l) recs (forms-good l h), refl)) (λ h. rw h refl)
 
 -- What a line is about: an answer, the bytes and the row afterwards, and a test. A number alone stands as the answer's length.
 pub record Outcome : Type 0 where
@@ -116,7 +101,7 @@ found (readsRun p f run r after) =
     outcome (alone (packed (answer n 0 1 (said o)))) (lentAfter n (bytesOf (said o)) run)
 found (lists input out) =
     let ls = linesFrom [] (text input) in
-    tested (alone 0) (listingOf ls) (leb (length (text input)) mostInput && layoutFits ls)
+    tested (alone 0) (listingOf ls) (leb (length (text input)) mostInput)
 
 -- what the line says
 unfoldable pub says : Line → Outcome
@@ -141,7 +126,7 @@ says (lists input out) = tested (alone 0) (text out) true
 
 -- A line is computed by opening every definition on the way: a law that says `unfolding definitions` opens all of these.
 unfoldable pub definitions : ℕ
-unfolding has times place any count same first each upTo firstOf badField textFits next copies expandFrom isNine isSuppressible isDigit isFirstDrifting opens isStatic isSign drifts driftsSign number numbers suppresses kindUpTo rolesFrom formOf meaning oneV drifting oneDrifts suppressionApart ninesLast suppressedPlaces oneSign staticsPlaced driftsBeforeV formShape shape whole places digitsFit verdict digitsOf valueOf inRange aligned isMinus hasSign tooBig fill mark digitChar printed suppressed cell opening allSuppressible digitAt isShown firstShown start inStretch driftsTo cellAt isBlank field edited checkAnswer editNumber editAnswer editMemory readAnswer digitIn shownIn worthOf minusFits readOf cut closes countFits accepted forms recordLength headers positions planOf numberOver answerOver compileNumber compileAnswer compileMemory readBefore recordAnswer rowAfter editVerdicts recordOf rowNumber rowAnswer readAll linesFrom trimmed decimal line answerLine layoutLine recordLine recordLines listed packed bitsOf intOf leBytes leValue bytesOf intIn rowBytes rowIn readRunNumber roomOf pictureOf plainNumber inOrder bears oneDollar marksLast fitsRoom wellMade good formsFrom formsIn allGood isPlan allFit listingOf layoutFits found says
+unfolding has times place any count same first each upTo firstOf badField textFits next copies expandFrom isNine isSuppressible isDigit isFirstDrifting opens isStatic isSign drifts driftsSign number numbers suppresses kindUpTo rolesFrom formOf meaning oneV drifting oneDrifts suppressionApart ninesLast suppressedPlaces oneSign staticsPlaced driftsBeforeV formShape shape whole places digitsFit verdict digitsOf valueOf inRange aligned isMinus hasSign tooBig fill mark digitChar printed suppressed cell opening allSuppressible digitAt isShown firstShown start inStretch driftsTo cellAt isBlank field edited checkAnswer editNumber editAnswer editMemory readAnswer digitIn shownIn worthOf minusFits readOf cut closes countFits accepted forms recordLength headers positions planOf numberOver answerOver compileNumber compileAnswer compileMemory readBefore recordAnswer rowAfter editVerdicts recordOf rowNumber rowAnswer readAll linesFrom trimmed decimal line answerLine layoutLine recordLine recordLines packed bitsOf intOf leBytes leValue bytesOf intIn rowBytes rowIn readRunNumber roomOf pictureOf plainNumber inOrder bears oneDollar marksLast fitsRoom wellMade good formsFrom formsIn allGood isPlan listingOf found says
 definitions = 0
 
 -- Where the two are equal the line holds.
@@ -164,10 +149,8 @@ passes a b e = ap (λ (o : Outcome). o .passed) e
 reads-by : (t f : List ℕ) (r : Answer) → readAnswer t f (readOf (meaning t) f) ≡ r → ReadIs t f r
 reads-by t f r e = rw (← e) (read-is t f)
 
-lists-by : (input out : List ℕ) → (leb (length input) mostInput && layoutFits (linesFrom [] input)) ≡ true → listingOf (linesFrom [] input) ≡ out → Lists input out
-lists-by input out h e =
-    let w = both (leb (length input) mostInput) _ h in
-    rw (w .0) (lists-lines (linesFrom [] input) out (w .1) e)
+lists-by : (input out : List ℕ) → leb (length input) mostInput ≡ true → listingOf (linesFrom [] input) ≡ out → Lists input out
+lists-by input out h e = rw (h, ← e) (lists-lines (linesFrom [] input))
 
 its-plan : (l : List ℕ) → accepted l ≡ true → HasPlan l (planOf (forms l))
 its-plan l h = record { layout = h; plan = refl }
@@ -214,3 +197,8 @@ unfolding All
 all-hold [] e = tt
 all-hold (l ∷ ls) e =
     (holds l (ap (λ (os : List Outcome). getD os 0 (found l)) e), all-hold ls (ap (λ (os : List Outcome). drop 1 os) e))
+
+pub all-join : (ls ms : List Line) → All ls → All ms → All (ls ++ ms)
+unfolding All
+all-join [] ms a b = b
+all-join (l ∷ ls) ms a b = (a .0, all-join ls ms (a .1) b)

@@ -1,6 +1,7 @@
 -- Examples of our own, beside the sheet: one list a subject, which together hold down what every definition says, in plain numbers and texts.
 -- Each symbol stands here with both signs, each number that comes back, each rule of shape, each limit on both sides, each two refusals that
--- follow one another in their order, and each byte of a plan. proofs/Examples.antt proves them. Assumes nothing.
+-- follow one another in their order, and each byte of a plan. proofs/Examples.antt proves them; the number 13 and the input's limit are proved
+-- there of every input. Assumes nothing.
 use Prim.Native.String.{String}
 use mathlib.Core.List.{List, [], _∷_, _++_}
 use lib.IntN.{pos}
@@ -8,7 +9,7 @@ use lib.ListN.{replicate}
 use Rattle.rules.specs.Words.{text}
 use Rattle.rules.specs.Sheet.{Line, accepts, compiles, compilesInto, edits, editsInto, forbids, joined, keeps, lists, minus, noPlan, packs, planEdits, planReads, reads, readsRun, refusal, refuses, rejects, repeated, series, spoils, stores, success}
 
--- Each sign and the dollar sign standing still, before the digits and behind them, with both signs.
+-- RULES 3.12: each sign and the dollar sign standing still, before the digits and behind them, with both signs.
 abbrev pub statics : List Line
 statics =
     edits "S9" (pos 5) 0 "+5" ∷
@@ -32,7 +33,7 @@ statics =
     edits "9$S" (pos 5) 0 "5$+" ∷
     edits "9$S" (minus 5) 0 "5$-" ∷ []
 
--- The same drifting, with both signs; the character stands last in the stretch, at an insertion's position too.
+-- RULES 3.13: the same drifting, with both signs; the character stands last in the stretch, at an insertion's position too.
 abbrev pub drifting : List Line
 drifting =
     edits "SSS9" (pos 5) 0 "  +5" ∷
@@ -52,7 +53,7 @@ drifting =
     edits "$V$" (pos 5) 1 "$5" ∷
     edits "$,V.$" (pos 5) 1 " $.5" ∷ []
 
--- Each insertion with both signs, and inside the stretch and outside it: before it, behind it and between digits that print.
+-- RULES 3.11: each insertion with both signs, and inside the stretch and outside it: before it, behind it and between digits that print.
 abbrev pub insertions : List Line
 insertions =
     edits "S9,9.9/9B9" (pos 12345) 0 "+1,2.3/4 5" ∷
@@ -68,7 +69,7 @@ insertions =
     edits "V,.ZZ" (pos 1) 2 ",.01" ∷
     edits "ZV.9" (pos 0) 0 " .0" ∷ []
 
--- 9, Z, * and V: leading zeros, where printing starts, and a sign beside them.
+-- RULES 3.5 to 3.10: 9, Z, * and V: leading zeros, where printing starts, and a sign beside them.
 abbrev pub digits : List Line
 digits =
     edits "999" (pos 7) 0 "007" ∷
@@ -89,7 +90,7 @@ digits =
     edits "ZZV.ZZ" (pos 5) 2 "  .05" ∷
     edits "V$9" (pos 5) 1 "$5" ∷ []
 
--- Everything suppressed: signs, $ and insertions take the fill, under Z, under * and under a drifting symbol; but not where there is a 9.
+-- RULES 3.7: everything suppressed, signs, $ and insertions too, under Z, under * and under a drifting symbol; but not where there is a 9.
 abbrev pub blanks : List Line
 blanks =
     edits "S$Z,Z.Z/ZBZ" (pos 0) 0 "           " ∷
@@ -112,7 +113,7 @@ blanks =
     rejects "***" "   " 10 ∷
     rejects "$ZZ" "$  " 10 ∷ []
 
--- Alignment: the cut toward zero, the sign plus of a zero, and what is too big.
+-- RULES 3.2 to 3.4: the cut toward zero, the sign plus of a zero, and what is too big.
 abbrev pub alignment : List Line
 alignment =
     edits "S9V9" (pos 199) 2 "+19" ∷
@@ -134,7 +135,7 @@ alignment =
     edits "$ZV9" (minus 9) 2 "$ 0" ∷
     refuses "$ZV9" (minus 10) 2 8 ∷ []
 
--- Reading takes each symbol's characters for both signs, and nothing else: no minus zero, no blank for a 9, no other fill.
+-- RULES 4: reading takes each symbol's characters for both signs, and nothing else: no minus zero, no blank for a 9, no other fill.
 abbrev pub readings : List Line
 readings =
     reads "S9V9" "+19" (pos 19) ∷
@@ -158,6 +159,9 @@ readings =
     rejects "-9" "-0" 10 ∷
     rejects "9CR" "0CR" 10 ∷
     rejects "9DB" "0DB" 10 ∷
+    rejects "SS9" " -0" 10 ∷
+    rejects "++9" "  0" 10 ∷
+    rejects "--9" " -0" 10 ∷
     rejects "9CR" "5DB" 10 ∷
     rejects "9" " " 10 ∷
     rejects "9V9" "1 " 10 ∷
@@ -166,7 +170,7 @@ readings =
     rejects "9B9" "1B2" 10 ∷
     rejects "$$9" "$ 5" 10 ∷ []
 
--- From text to symbols: factors, the marks as the last two bytes, no other letter, and what is kept of a picture, in a room of 64.
+-- RULES 1: factors, the marks as the last two bytes, no other letter, and what is kept of a picture, in a room of 64.
 abbrev pub texts : List Line
 texts =
     accepts "(2)9(1)B9" 4 ∷
@@ -193,6 +197,9 @@ texts =
     forbids "CR9" 2 ∷
     forbids "9R" 2 ∷
     forbids "9D" 2 ∷
+    forbids "9C" 2 ∷
+    forbids "9CVR" 2 ∷
+    forbids "( 2)9" 2 ∷
     forbids "z" 2 ∷
     forbids " 9" 2 ∷
     forbids "9T" 2 ∷
@@ -205,9 +212,11 @@ texts =
     forbids "X" 2 ∷
     forbids "9;" 2 ∷
     keeps "(2)9V9CR" (text "99V9CR" ++ replicate 58 0) 6 ∷
+    keeps "(61)B9CR" (replicate 61 66 ++ text "9CR") 64 ∷
+    keeps "(64)9V" (replicate 64 0) 0 ∷
     keeps "9Z" (replicate 64 0) 0 ∷ []
 
--- Each rule of shape: what breaks it, and beside it a neighbour that doesn't. Those on V and on what suppresses:
+-- RULES 2.5 to 2.12, each rule of shape: what breaks it, and beside it a neighbour that doesn't. Those on V and on what suppresses:
 abbrev pub suppressions : List Line
 suppressions =
     -- one V
@@ -227,7 +236,7 @@ suppressions =
     forbids "*--" 4 ∷
     accepts "$Z" 2 ∷
     accepts "-**" 3 ∷
-    -- no suppressible digit behind a 9
+    -- nothing suppressible behind a 9
     forbids "9*" 4 ∷
     forbids "9$$" 4 ∷
     forbids "$$9$" 4 ∷
@@ -240,7 +249,7 @@ suppressions =
     accepts "ZVZ" 2 ∷
     accepts "$$V$" 3 ∷
     accepts "ZV9" 2 ∷
-    -- V not before the first drifting symbol
+    -- a drifting symbol begins left of V
     forbids "V$$" 4 ∷
     forbids "V,--" 4 ∷
     forbids "V++9" 4 ∷
@@ -285,7 +294,7 @@ placements =
 abbrev pub longest : String
 longest = joined (repeated 25 "(01)B") "999"
 
--- Each limit of a picture, on both sides.
+-- RULES 1.1, 1.4, 1.5 and 2.13: each limit of a picture, on both sides.
 abbrev pub limits : List Line
 limits =
     -- bytes of a text
@@ -320,7 +329,7 @@ limits =
     accepts "(8)9V(7)9" 15 ∷
     forbids "(8)9V(8)9" 5 ∷ []
 
--- Each limit of a value, on both sides.
+-- RULES 3.1: each limit of a value, on both sides.
 abbrev pub values : List Line
 values =
     -- its scale
@@ -333,7 +342,7 @@ values =
     edits "S(15)9" (minus 999999999999999) 0 "-999999999999999" ∷
     refuses "S(15)9" (minus 1000000000000000) 0 6 ∷ []
 
--- Each limit of a layout, on both sides.
+-- RULES 5.1: each limit of a layout, on both sides.
 abbrev pub layouts : List Line
 layouts =
     spoils "" 11 0 ∷
@@ -348,7 +357,7 @@ layouts =
     compiles (repeated 32 (joined longest ";")) (32 ∷ series 32 (28 ∷ 28 ∷ 0 ∷ []) ++ (3 ∷ 128 ∷ series 32 (replicate 25 10 ++ replicate 3 0))) ∷
     spoils (joined (repeated 31 (joined longest ";")) (joined longest "9;")) 11 0 ∷ []
 
--- What is written stands first in the lent memory; the rest of it stays, and a refusal leaves all of it.
+-- RULES 6.5: what is written stands first in the lent memory; the rest of it stays, and a refusal leaves all of it.
 abbrev pub memory : List Line
 memory =
     editsInto "99" (pos 7) 0 "####" (success 2 (pos 0)) "07##" ∷
@@ -362,7 +371,7 @@ memory =
     planEdits "9;99V9;S9;" (pos 9 ∷ pos 7 ∷ minus 9 ∷ []) "########" (success 6 (pos 0)) "9007-9##" ∷
     planEdits "9;99V9;S9;" (pos 9 ∷ pos 7 ∷ minus 10 ∷ []) "########" (refusal 8 3) "########" ∷ []
 
--- The order of refusals: of each two that follow one another both apply, and the first is given. In calls on one picture:
+-- RULES 6.6, the order of refusals: of each two that follow one another both apply, and the first is given. In calls on one picture:
 abbrev pub orders : List Line
 orders =
     -- a picture: 1, 2, 3, 4, 5
@@ -371,14 +380,14 @@ orders =
     forbids "(64)9Z" 3 ∷
     forbids "(16)9Z" 4 ∷
     forbids "(16)9" 5 ∷
-    -- editing: picture, 6, 8, 7
+    -- editing a value: picture, 6, 8, 7
     refuses "9Z" (pos 1000000000000000) 0 4 ∷
     refuses "(16)9" (pos 1) 16 5 ∷
     refuses "9" (minus 1000000000000000) 0 6 ∷
     refuses "9" (pos 100) 16 6 ∷
     editsInto "9" (pos 10) 0 "" (refusal 8 0) "" ∷
     editsInto "9" (pos 9) 0 "" (refusal 7 0) "" ∷
-    -- reading: picture, 9, 10
+    -- reading a field: picture, 9, 10
     rejects "9Z" "x" 4 ∷
     rejects "(16)9" "" 5 ∷
     rejects "9" "" 9 ∷
@@ -388,7 +397,7 @@ orders =
 -- In calls on layouts and plans, behind 12:
 abbrev pub planOrders : List Line
 planOrders =
-    -- compiling: 11, the first bad picture, 7
+    -- compiling: 11, a bad picture, 7
     spoils "9Z;9" 11 0 ∷
     spoils "9;Z;9Z;Q;" 4 3 ∷
     spoils "9;;" 1 2 ∷
@@ -397,12 +406,12 @@ planOrders =
     spoils "9;9;CR;" 5 3 ∷
     compilesInto "9;9Z;" [] (refusal 4 2) [] ∷
     compilesInto "9;" [] (refusal 7 0) [] ∷
-    -- plan reading: 9, 7, the first field with 10
+    -- reading a record: 9, 7, 10 at the first field that has it
     planReads "9;99;S9;" "x" [] (refusal 9 0) [] ∷
     planReads "9;99;S9;" "x22+33" (pos 5 ∷ pos 5 ∷ pos 5 ∷ []) (refusal 9 0) (pos 5 ∷ pos 5 ∷ pos 5 ∷ []) ∷
     planReads "9;99;S9;" "x22+3" (pos 5 ∷ pos 5 ∷ []) (refusal 7 0) (pos 5 ∷ pos 5 ∷ []) ∷
     planReads "9;99;S9;" "12x 3" (pos 5 ∷ pos 5 ∷ pos 5 ∷ []) (refusal 10 2) (pos 5 ∷ pos 5 ∷ pos 5 ∷ []) ∷
-    -- plan editing: 9, the first field with 6 or 8 and there 6 before 8, 7
+    -- editing a row: 9, the first field that has 6 or 8 and of one field 6, 7
     planEdits "9;99V9;S9;" (pos 10 ∷ pos 1000000000000000 ∷ []) "" (refusal 9 0) "" ∷
     planEdits "9;99V9;S9;" (pos 1 ∷ pos 2 ∷ pos 3 ∷ pos 4 ∷ []) "######" (refusal 9 0) "######" ∷
     planEdits "9;99V9;S9;" (pos 10 ∷ pos 1000000000000000 ∷ pos 0 ∷ []) "######" (refusal 8 1) "######" ∷
@@ -411,7 +420,7 @@ planOrders =
     planEdits "9;99V9;S9;" (pos 9 ∷ pos 999 ∷ pos 1000000000000000 ∷ []) "" (refusal 6 3) "" ∷
     planEdits "9;99V9;S9;" (pos 9 ∷ pos 999 ∷ minus 9 ∷ []) "#####" (refusal 7 0) "#####" ∷ []
 
--- Each byte of a plan: the roles 0 to 14, the kinds 0 to 6, V at every place, and a record length of two bytes.
+-- RULES 5.3, each byte of a plan: the roles 0 to 14, the kinds 0 to 6, V at every place, and a record length of two bytes.
 abbrev pub plans : List Line
 plans =
     compiles "9;" (1 ∷ 1 ∷ 1 ∷ 0 ∷ 0 ∷ 1 ∷ 0 ∷ []) ∷
@@ -434,8 +443,9 @@ plans =
     compiles "9VCR;" (1 ∷ 3 ∷ 1 ∷ 0 ∷ 0 ∷ 3 ∷ 0 ∷ 11 ∷ 12 ∷ []) ∷
     compiles (repeated 5 "(63)B9;") (5 ∷ series 5 (64 ∷ 64 ∷ 0 ∷ []) ++ (1 ∷ 64 ∷ series 5 (replicate 63 10 ++ (0 ∷ [])))) ∷ []
 
--- Bytes that are no plan: no field, a byte less or more, another count, the count's bytes exchanged, a kind that no position bears out, V
--- within a mark, half a mark, two signs, a symbol drifting and static, 64 positions and a V, 16 digits, 33 fields.
+-- RULES 5.4, bytes that are no plan: no field, a byte less or more, another count, the count's bytes exchanged, a kind that no position bears out, V
+-- within a mark, half a mark, two signs, a symbol drifting and static, one drifting alone, two dollar signs, a suppressible digit between V and a
+-- nine, 64 positions and a V, 16 digits, 33 fields.
 abbrev pub noPlans : List Line
 noPlans =
     noPlan [] ∷
@@ -453,11 +463,14 @@ noPlans =
     noPlan (1 ∷ 3 ∷ 3 ∷ 0 ∷ 0 ∷ 3 ∷ 0 ∷ 13 ∷ 10 ∷ []) ∷
     noPlan (1 ∷ 3 ∷ 3 ∷ 0 ∷ 0 ∷ 3 ∷ 3 ∷ 0 ∷ 5 ∷ []) ∷
     noPlan (1 ∷ 3 ∷ 3 ∷ 3 ∷ 0 ∷ 3 ∷ 3 ∷ 2 ∷ 1 ∷ []) ∷
+    noPlan (1 ∷ 2 ∷ 2 ∷ 3 ∷ 0 ∷ 2 ∷ 2 ∷ 0 ∷ []) ∷
+    noPlan (1 ∷ 3 ∷ 3 ∷ 0 ∷ 0 ∷ 3 ∷ 6 ∷ 0 ∷ 6 ∷ []) ∷
+    noPlan (1 ∷ 3 ∷ 1 ∷ 1 ∷ 0 ∷ 3 ∷ 1 ∷ 1 ∷ 0 ∷ []) ∷
     noPlan (1 ∷ 64 ∷ 1 ∷ 0 ∷ 0 ∷ 64 ∷ 0 ∷ replicate 63 10) ∷
     noPlan (1 ∷ 16 ∷ 16 ∷ 0 ∷ 0 ∷ 16 ∷ replicate 16 0) ∷
     noPlan (33 ∷ series 33 (1 ∷ 1 ∷ 0 ∷ []) ++ (0 ∷ 33 ∷ replicate 33 0)) ∷ []
 
--- For C programs: the number, 256 times the field and 65,536 times the length as one; a row as eight bytes a number, the low byte first and a
+-- RULES 7: the number, 256 times the field and 65,536 times the length as one; a row as eight bytes a number, the low byte first and a
 -- negative one in two's complement; and a field read into a run: picture, 9, 7, 10.
 abbrev pub runs : List Line
 runs =
@@ -465,6 +478,7 @@ runs =
     packs (success 1 (minus 7)) 65536 ∷
     packs (refusal 12 0) 12 ∷
     packs (refusal 10 1) 266 ∷
+    packs (refusal 10 2) 522 ∷
     packs (refusal 4 2) 516 ∷
     packs (refusal 8 32) 8200 ∷
     stores (pos 258 ∷ []) (2 ∷ 1 ∷ 0 ∷ 0 ∷ 0 ∷ 0 ∷ 0 ∷ 0 ∷ []) ∷
@@ -478,7 +492,7 @@ runs =
     readsRun "-9" "-0" (replicate 7 238) 7 (replicate 7 238) ∷
     readsRun "-9" "-0" (replicate 8 238) 10 (replicate 8 238) ∷ []
 
--- The lister: the layout alone, a last line with and without its LF, empty lines, a layout that is refused with its number and field, records
+-- RULES 8: the layout alone, a last line with and without its LF, empty lines, a layout that is refused with its number and field, records
 -- of another length, any byte but LF kept, and negative values.
 abbrev pub listings : List Line
 listings =
@@ -491,7 +505,12 @@ listings =
     lists "\n9;\n5\n" "0,11,0\n" ∷
     lists "9\n5\n" "0,11,0\n" ∷
     lists "9;Z9Z;\n5555\n5\n" "0,4,2\n" ∷
+    lists "9;CR;\n5CR\n5  \n" "0,5,2\n" ∷
     lists "9;\n55\n5\n" "0,0,0,1,1\n1,9,0\n2,0,0,5\n" ∷
     lists "9;\r\n5\r\n" "0,11,0\n" ∷
     lists "9;\n5\r\n \n" "0,0,0,1,1\n1,9,0\n2,10,1\n" ∷
     lists "S9V9;99;\n-1207\n+0007\n-0007\n+12x7\n" "0,0,0,2,5\n1,0,0,-12,7\n2,0,0,0,7\n3,10,1\n4,10,2\n" ∷ []
+
+-- All of them as one list.
+abbrev pub ours : List Line
+ours = statics ++ drifting ++ insertions ++ digits ++ blanks ++ alignment ++ readings ++ texts ++ suppressions ++ placements ++ limits ++ values ++ layouts ++ memory ++ orders ++ planOrders ++ plans ++ noPlans ++ runs ++ listings

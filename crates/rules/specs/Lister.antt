@@ -1,4 +1,4 @@
--- 01, "The lister": the lines that it writes for an input. Assumes nothing.
+-- RULES 8, the lister: the lines that it writes for an input. Assumes nothing.
 use Prim.Native.Nat.{ℕ, zero, suc, _+_}
 use Prim.Native.Char.{code}
 use mathlib.Core.Path.{_≡_}
@@ -12,16 +12,17 @@ use Rattle.rules.specs.declared.Answer.{Answer}
 use Rattle.rules.specs.Numbers.{INPUT}
 use Rattle.rules.specs.Digits.{digitsOf}
 use Rattle.rules.specs.Form.{Form}
-use Rattle.rules.specs.Layout.{forms, recordLength, planOf}
+use Rattle.rules.specs.Layout.{accepted, forms, recordLength, planOf}
 use Rattle.rules.specs.Answers.{answer, compileAnswer, rowLength, amounts, RecordReads, recordAnswer}
 
+-- RULES 8.2: so many bytes at most
 abbrev pub mostInput : ℕ
 mostInput = 65536
 
 abbrev lineEnd : ℕ
 lineEnd = 10
 
--- "LF ended; a last line without LF counts if it isn't empty. Nothing but LF is trimmed." `sofar` is the line begun.
+-- RULES 8.1: LF ends a line, and so does the input's end where something has been begun. `sofar` is the line begun.
 unfoldable pub linesFrom : List ℕ → List ℕ → List (List ℕ)
 linesFrom [] [] = []
 linesFrom (c ∷ sofar) [] = (c ∷ sofar) ∷ []
@@ -30,7 +31,7 @@ linesFrom sofar (b ∷ s) =
     let more = linesFrom (sofar ++ (b ∷ [])) s in
     cond (eqb b lineEnd) here more
 
--- a number in decimal: no leading zero, no plus, a minus before a negative one. The numbers of a listing have at most 20 digits.
+-- RULES 8.5, a number in decimal: no leading zero, no plus, a minus before a negative one. The numbers of a listing have at most 20 digits.
 unfoldable pub trimmed : List ℕ → List ℕ
 trimmed [] = []
 trimmed (d ∷ []) = (code "0" + d) ∷ []
@@ -44,13 +45,13 @@ abbrev pub signedDecimal : ℤ → List ℕ
 signedDecimal (pos n) = decimal n
 signedDecimal (negsuc n) = code "-" ∷ decimal (suc n)
 
--- "Commas between, LF after each line."
+-- RULES 8.5: the words of a line
 unfoldable pub line : List (List ℕ) → List ℕ
 line [] = lineEnd ∷ []
 line (w ∷ []) = w ++ (lineEnd ∷ [])
 line (w ∷ v ∷ ws) = w ++ (code "," ∷ line (v ∷ ws))
 
--- a line's own number, then "number, field, and on success" what belongs to it
+-- a line's own number, the answer's number and field, and on success what belongs to it
 unfoldable pub answerLine : ℕ → Answer → List (List ℕ) → List ℕ
 answerLine k r more = line (decimal k ∷ decimal (r .number) ∷ decimal (r .field) ∷ cond (eqb (r .number) 0) more [])
 
@@ -58,11 +59,11 @@ answerLine k r more = line (decimal k ∷ decimal (r .number) ∷ decimal (r .fi
 abbrev layoutAnswer : List ℕ → Answer
 layoutAnswer l = compileAnswer l (planOf (forms l))
 
--- "First line out: `0`, number, field, and on success the field count and record length."
+-- RULES 8.3: 0, the answer, and on success the two counts
 unfoldable pub layoutLine : List ℕ → List ℕ
 layoutLine l = answerLine 0 (layoutAnswer l) (decimal (length (forms l)) ∷ decimal (recordLength (forms l)) ∷ [])
 
--- "Then per record: its number from 1, number, field, and on success the values." `os` is what its fields say, and a row is long enough.
+-- RULES 8.4: `os` is what the record's fields say, and a row is long enough
 unfoldable pub recordLine : List Form → ℕ → List ℕ → List (Option ℤ) → List ℕ
 recordLine φs k rec os = answerLine k (recordAnswer φs rec (rowLength φs) os) (map signedDecimal (amounts os))
 
@@ -78,16 +79,16 @@ AllRead φs [] (os ∷ oss) = ⊥
 AllRead φs (rec ∷ recs) [] = ⊥
 AllRead φs (rec ∷ recs) (os ∷ oss) = RecordReads φs rec os × AllRead φs recs oss
 
--- "If the layout is refused that is all."
-unfoldable pub listed : List ℕ → List (List ℕ) → List (List (Option ℤ)) → List ℕ
-listed l recs oss = layoutLine l ++ cond (eqb (layoutAnswer l .number) 0) (recordLines (forms l) 1 recs oss) []
-
--- the listing of an input's lines: the layout line and the records. "Empty input gives `0,11,0`": its layout line is empty.
+-- RULES 8.3: the listing of an input's lines. Behind an accepted layout the records are listed, behind a refused one nothing is. An input without
+-- lines has an empty layout.
 abbrev pub ListsLines : List (List ℕ) → List ℕ → Type 0
 ListsLines [] out = out ≡ layoutLine []
-ListsLines (l ∷ recs) out = (oss : List (List (Option ℤ))) × AllRead (forms l) recs oss × (out ≡ listed l recs oss)
+ListsLines (l ∷ recs) out =
+    cond (accepted l)
+    ((oss : List (List (Option ℤ))) × AllRead (forms l) recs oss × (out ≡ layoutLine l ++ recordLines (forms l) 1 recs oss))
+    (out ≡ layoutLine l)
 
--- "input over the limit gives `0,13,0`"
+-- RULES 8.2: all that is listed of a longer input
 unfoldable pub overLimit : List ℕ
 overLimit = answerLine 0 (answer INPUT 0 0 (pos 0)) []
 

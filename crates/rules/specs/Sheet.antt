@@ -1,7 +1,7 @@
--- The sheet of examples: its lines as data, with what it means that a line holds. A line says what goes in and what comes out in plain numbers
+-- RULES 9, the sheet of examples: its lines as data, with what it means that a line holds. A line says what goes in and what comes out in plain numbers
 -- and texts, by no name of a definition, so that a definition that says something else fails at a line. proofs/Examples.antt proves that all
--- of them hold: those marked P as one list with one statement, and the others. The lines of specs/Lines.antt are of the same kind. Assumes
--- nothing.
+-- of them hold: those of which the customers ask a proof as one list with one statement, and the others. The lines of specs/Lines.antt are
+-- of the same kind. Assumes nothing.
 use Prim.Native.Nat.{ℕ, zero, suc}
 use Prim.Native.String.{String, [] as none, _∷_ as _then_}
 use mathlib.Core.Path.{_≡_}
@@ -111,7 +111,7 @@ All (l ∷ ls) = Holds l × All ls
 abbrev pub minus : ℕ → ℤ
 minus n = negℤ (pos n)
 
--- The lines marked P.
+-- The customers' lines of which they ask a proof.
 abbrev pub sheet : List Line
 sheet =
     edits "ZZ9V.99" (pos 1234) 2 " 12.34" ∷
@@ -131,7 +131,7 @@ sheet =
     reads "ZZ9" "  7" (pos 7) ∷
     reads "ZZZ" "   " (pos 0) ∷ []
 
--- The others, the plan of a layout and the listing among them.
+-- Their others, the plan of a layout and the listing among them.
 abbrev pub others : List Line
 others =
     edits "S999" (minus 1) 1 "+000" ∷
