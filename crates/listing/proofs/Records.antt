@@ -37,10 +37,6 @@ spoken k zero field values row =
 spoken k (suc n) field values row = answer-text k (answer (suc n) field (length values) (pos 0)) _ _ (λ h. absurd (omega arith))
 
 module _ (φs : List Form) (rec : List ℕ) (row : List ℤ) (few : length φs ≤ length row) where
-  same-answer : (os : List (Option ℤ)) → recordAnswer φs rec (length row) os ≡ recordAnswer φs rec (length φs) os
-  unfolding recordAnswer
-  same-answer os = rw (same-room φs rec (length row) (length φs) few (omega arith))
-
   read-text : (k : ℕ) (r : Answer) (after : List ℤ) (w : RecordIs φs rec row r after) → textOf k (r .number) (r .field) (take (r .length) after) ≡ recordLine φs k rec (w .says)
   unfolding recordAnswer answerOver rowAfter recordLine
   read-text k r after w =

@@ -2,29 +2,24 @@
 -- there. Assumes nothing.
 use mathlib.Core.Path.{_≡_, refl, sym, _∙_, ap}
 use mathlib.Core.List.{List, [], _∷_, _++_}
-use Prim.Native.Nat.{ℕ, suc, _+_, _≤_}
+use Prim.Native.Nat.{ℕ, _+_, _≤_}
 use native.Mathlib.Nat.{zero-add}
 use native.Mathlib.Numerals.{add-one}
 use native.Mathlib.Omega.{arith}
 use lib.ListN.{length, set, drop, length-append}
 use lib.Seq.{length-sets, sets-eq}
+use Rattle.rules.proofs.Lists.{sets-append}
 use Rattle.listing.specs.Put.{written, Puts}
-
-written-append : (xs ys out : List ℕ) (at : ℕ) → written out at (xs ++ ys) ≡ written (written out at xs) (at + length xs) ys
-unfolding written
-written-append [] ys out at = let e : at + 0 ≡ at = omega arith in rw e
-written-append (x ∷ xs) ys out at =
-    let e : at + suc (length xs) ≡ suc at + length xs = omega arith in
-    rw e (written-append xs ys (set out at x) (suc at))
 
 pub put-none : (out : List ℕ) (at : ℕ) → Puts [] out at out at
 unfolding written
 put-none out at = record { memory = refl; behind = omega arith }
 
 pub put-join : {xs ys out mid after : List ℕ} {at p q : ℕ} → Puts xs out at mid p → Puts ys mid p after q → Puts (xs ++ ys) out at after q
+unfolding written
 put-join {xs = xs} {ys = ys} {out = out} {mid = mid} {at = at} {p = p} f g =
     record {
-      memory = g .memory ∙ rw (f .memory, f .behind) (sym (written-append xs ys out at));
+      memory = g .memory ∙ rw (f .memory, f .behind) (sym (sets-append xs ys out at));
       behind = omega (arith, f .behind, g .behind, length-append xs ys);
     }
 

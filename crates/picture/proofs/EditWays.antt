@@ -4,8 +4,8 @@ use mathlib.Core.Path.{_≡_, refl, sym, ap, _∙_}
 use mathlib.Core.Bool.{and-false}
 use mathlib.Core.List.{List, [], _∷_, _++_}
 use native.Mathlib.Nat.{sub-zero}
-use borrow.Author.Tests.{lt-leb, lt-ltb, le-ltb, le-leb, eq-eqb, eqb-true}
-use lib.Dec.{ltb, eqb}
+use borrow.Author.Tests.{lt-leb, lt-ltb, le-ltb, le-leb}
+use lib.Dec.{ltb}
 use lib.IntN.{ℤ, pos, natAbs}
 use lib.ListN.{length, take, drop}
 use lib.Seq.{take-append-seam}
@@ -16,7 +16,6 @@ use Rattle.rules.specs.Form.{Form, size, meaning}
 use Rattle.rules.specs.Shape.{mostDigits, digitCount, verdict}
 use Rattle.rules.specs.Edit.{inRange, tooBig, aligned, isMinus, field, edited}
 use Rattle.rules.specs.Answers.{editNumber, editAnswer, editMemory}
-use Rattle.rules.proofs.Logic.{by-test}
 use Rattle.rules.proofs.Firsts.{first-here, first-next, first-pass, first-stop, refuses, lent-kept}
 use Rattle.rules.proofs.Fields.{length-field}
 use Rattle.copying.specs.Copy.{copied}
@@ -24,20 +23,16 @@ use Rattle.copying.proofs.Copies.{copied-front}
 use Rattle.field.specs.declared.Field.{Field}
 use Rattle.field.specs.Results.{roomOf, fieldRoom}
 use Rattle.value.specs.declared.Settled.{Settled}
-use Rattle.value.specs.Settling.{settleNumber, settledOf}
+use Rattle.value.specs.Settling.{settledOf}
+use Rattle.value.proofs.Laws.{settled-number, settled-minus, settled-t}
 use Rattle.picture.specs.Calls.{Narrow, formNumber, formAnswer, formMemory}
 
 module _ (φ : Form) (m : ℤ) (q : ℕ) (n : Narrow φ) (s : Settled) (e : s ≡ settledOf φ m q) where
   abbrev settling : List ℕ
   settling = unless (inRange m q) VALUE ∷ when (tooBig φ m q) SIZE ∷ []
 
-  settle-is : settleNumber φ m q ≡ firstOf settling
-  unfolding settleNumber
-  settle-is = rw (le-ltb mostDigits (digitCount φ) (n .digits))
-
   number-is : s .number ≡ firstOf settling
-  unfolding settledOf
-  number-is = rw e (by-test (eqb (settleNumber φ m q) 0) (λ z. rw z (sym (eqb-true _ 0 z) ∙ settle-is)) (λ z. rw z settle-is))
+  number-is = settled-number φ m q (n .digits) s e
 
   module _ (out : List ℕ) where
     form-number : formNumber φ m q (length out) ≡ firstOf (settling ++ (when (ltb (length out) (size φ)) ROOM ∷ []))
@@ -62,12 +57,10 @@ module _ (φ : Form) (m : ℤ) (q : ℕ) (n : Narrow φ) (s : Settled) (e : s �
 
       -- the sign and T are those of the value
       minus-is : s .negative ≡ isMinus φ m q
-      unfolding settledOf
-      minus-is = rw (e, eq-eqb (settleNumber φ m q) 0 (settle-is ∙ sym number-is ∙ z))
+      minus-is = settled-minus φ m q (n .digits) s e (sym number-is ∙ z)
 
       t-is : s .t ≡ aligned φ m q
-      unfolding settledOf
-      t-is = rw (e, eq-eqb (settleNumber φ m q) 0 (settle-is ∙ sym number-is ∙ z))
+      t-is = settled-t φ m q (n .digits) s e (sym number-is ∙ z)
 
       module _ (f : Field) (g : f ≡ fieldRoom φ (s .negative) (s .t)) where
         room-is : f ≡ roomOf (edited φ m q)

@@ -1,22 +1,19 @@
 -- The verdict on a text, at each way through its judging. Assumes nothing.
-use Prim.Native.Nat.{ℕ, zero, suc, _≤_}
+use Prim.Native.Nat.{ℕ, _≤_}
 use mathlib.Core.Path.{_≡_, refl, sym, ap, _∙_}
-use mathlib.Core.Bool.{Bool, true, false, cond, not, _&&_}
+use mathlib.Core.Bool.{Bool, true, false, not, _&&_}
 use mathlib.Core.List.{List, [], _∷_}
-use native.Mathlib.Omega.{arith}
-use borrow.Author.Tests.{leb-true, le-leb, not-true, not-false, eq-eqb, ne-eqb}
-use lib.Dec.{leb, eqb}
+use borrow.Author.Tests.{leb-true, not-true, not-false, eq-eqb, ne-eqb}
+use lib.Dec.{leb}
 use lib.ListN.{length}
-use Rattle.rules.specs.declared.Picture.{Picture}
 use lib.IntN.{pos}
 use Rattle.rules.specs.Numbers.{TEXT, SYMBOL, LONG, SHAPE, DIGITS, unless, firstOf}
 use Rattle.rules.specs.Text.{textFits, isSpelled, symbolsOf, mostSymbols, roomOf, heldIn}
 use Rattle.rules.specs.Form.{numbers, formOf, size, meaning}
-use Rattle.rules.specs.Roles.{lastKind}
 use Rattle.rules.specs.Shape.{oneV, oneDrifts, suppressionApart, formShape, shape, digitsFit, verdict, pictureOf}
 use Rattle.rules.specs.Answers.{checkAnswer}
 use Rattle.rules.specs.Good.{wellMade, good}
-use Rattle.rules.proofs.Logic.{by-test, both}
+use Rattle.rules.proofs.Logic.{both}
 use Rattle.rules.proofs.Expand.{spelled, expanded}
 use Rattle.rules.proofs.Firsts.{first-zero, unless-zero, first-pass, first-stop, refuses}
 use Rattle.rules.proofs.Forms.{well-made, one-suppresses, spelled-some, accepted-good}

@@ -1,33 +1,31 @@
--- One field and its value: the number that is settled at the field's own scale is the one 01 gives the field, and of a value that is not
+-- One field and its value: the number that is settled at the field's own scale is the one that the rules give the field, and of a value that is not
 -- refused the room holds the field. Assumes nothing.
-use mathlib.Core.Path.{_≡_, sym, _∙_}
+use mathlib.Core.Path.{_≡_, _∙_}
 use mathlib.Core.Bool.{true}
 use mathlib.Core.List.{List}
-use borrow.Author.Tests.{eqb-true, eq-eqb, le-ltb}
 use Prim.Native.Nat.{ℕ, _+_, _-_, _*_, _^_, _<_, _≤_}
 use native.Mathlib.Omega.{arith}
 use mir.Facts.{toZ-ofZ}
 use mir.Syntax.{w64}
 use mir.Val.{SFits, hbits, ofZ, toZ}
-use lib.Dec.{eqb}
 use lib.IntN.{ℤ, pos}
 use lib.Signed.{mag}
 use lib.ListN.{length, getD, take, drop}
 use Rattle.rules.specs.Form.{Form, formed, size}
-use Rattle.rules.specs.Shape.{digitCount, mostDigits, places}
+use Rattle.rules.specs.Shape.{places}
 use Rattle.rules.specs.Edit.{aligned, edited, isMinus}
 use Rattle.rules.specs.Good.{good}
 use Rattle.rules.specs.Answers.{fieldNumber, fieldOf}
 use Rattle.rules.proofs.Fields.{length-field}
 use Rattle.rules.proofs.Forms.{few-digits, good-parts}
-use Rattle.rules.proofs.Logic.{by-test}
 use Rattle.rules.proofs.PlanWalk.{formAt, widthAt}
 use Rattle.field.specs.declared.Field.{Field}
 use Rattle.field.specs.declared.Measured.{Measured}
 use Rattle.field.specs.Results.{fieldRoom, measureOf, roomOf}
 use Rattle.field.proofs.Laws.{field-room, measure-places, room-chars, room-count}
 use Rattle.value.specs.declared.Settled.{Settled}
-use Rattle.value.specs.Settling.{settleNumber, settledOf}
+use Rattle.value.specs.Settling.{settledOf}
+use Rattle.value.proofs.Laws.{settled-number, settled-minus, settled-t}
 use Rattle.plan.proofs.Parts.{part-form}
 use Rattle.planedit.specs.Rows.{Fine}
 
@@ -43,22 +41,16 @@ unfolding edited
 edited-size φ m = length-field φ _ _
 
 module _ (φ : Form) (m : ℤ) (g : good φ ≡ true) where
-  settle-is : settleNumber φ m (places φ) ≡ fieldNumber φ m
-  unfolding settleNumber
-  settle-is = rw (le-ltb mostDigits (digitCount φ) (few-digits φ g))
-
   module _ (s : Settled) (e : s ≡ settledOf φ m (places φ)) where
     pub number-is : s .number ≡ fieldNumber φ m
-    unfolding settledOf
-    number-is = rw e (by-test (eqb (settleNumber φ m (places φ)) 0) (λ z. rw z (sym (eqb-true _ 0 z) ∙ settle-is)) (λ z. rw z settle-is))
+    number-is = settled-number φ m (places φ) (few-digits φ g) s e
 
     -- the sign and T are those of the value
     made : fieldNumber φ m ≡ 0 → (f : Field) → f ≡ fieldRoom φ (s .negative) (s .t) → f ≡ roomOf (fieldOf φ m)
-    unfolding settledOf edited
+    unfolding edited
     made z f q =
-        let x = eq-eqb (settleNumber φ m (places φ)) 0 (settle-is ∙ z) in
-        let n : s .negative ≡ isMinus φ m (places φ) = rw (e, x) in
-        let t : s .t ≡ aligned φ m (places φ) = rw (e, x) in
+        let n = settled-minus φ m (places φ) (few-digits φ g) s e z in
+        let t = settled-t φ m (places φ) (few-digits φ g) s e z in
         let l : size φ ≤ 64 = omega (arith, good-parts φ g .size) in
         q ∙ rw (n, t) (field-room φ (few-digits φ g) (isMinus φ m (places φ)) (aligned φ m (places φ)) l)
 

@@ -88,7 +88,7 @@ sign-between : (j : ℕ) → 3 ≤ j → j ≤ 5 → isSign j ≡ true
 unfolding isSign
 sign-between j p q = rw (le-leb 3 j p, le-leb j 5 q)
 
--- "At most one kind drifts" and "Z and * don't appear together, and neither appears with a drifting symbol": at most one kind suppresses
+-- RULES 2.6 and 2.7 together: at most one kind suppresses
 module _ (ns : List ℕ) where
   suppressing-is : suppressing lastKind ns ≡ drifting ns + (one (suppresses 2 ns) + one (suppresses 1 ns))
   unfolding suppressing drifting
@@ -289,6 +289,3 @@ accepted-good t v =
     let z = both (suppressionApart s) _ (y .1) in
     let o = one-suppresses (numbers s) (leb-true _ 1 (y .0)) (leb-true _ 1 (z .0)) in
     rw (well-made s (expanded _ t s (a .spells)) o (a .room), z .1, a .digits)
-
-pub means-good : (t : List ℕ) (φ : Form) → Means t φ → good φ ≡ true
-means-good t φ m = rw (← m .form) (accepted-good t (m .accepted))

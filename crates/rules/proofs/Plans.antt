@@ -64,10 +64,6 @@ forms-ahead φs y =
 pub forms-back : (φs : List Form) → formsIn (planOf φs) ≡ φs
 forms-back φs = rw append-nil at (forms-ahead φs [])
 
--- two lists of forms with one plan are the same
-pub plan-one : (φs ψs : List Form) → planOf φs ≡ planOf ψs → φs ≡ ψs
-plan-one φs ψs e = sym (forms-back φs) ∙ ap formsIn e ∙ forms-back ψs
-
 -- a record of good forms has at most 64 characters a field
 pub record-le : (φs : List Form) → allGood φs ≡ true → recordLength φs ≤ 64 * length φs
 unfolding recordLength allGood

@@ -1,27 +1,24 @@
 -- The walk over a text's bytes finds what `expand` says: it ends in the plain mode exactly where every byte and factor is allowed, and the
 -- symbols that it gave are then those of the text. Assumes nothing.
 use Prim.Native.Nat.{ℕ, zero, suc, _+_, _-_, _*_, _<_, _≤_}
-use mathlib.Core.Path.{_≡_, refl, sym, ap, _∙_}
+use mathlib.Core.Path.{_≡_, refl, sym, _∙_}
 use mathlib.Core.Bool.{Bool, true, false, cond, _&&_, and-false}
 use mathlib.Core.List.{List, [], _∷_, _++_}
-use mathlib.Core.Option.{Option, none, some}
-use native.Mathlib.Nat.{sub-zero, add-zero, zero-add, add-suc, suc-add, add-assoc}
+use mathlib.Core.Option.{none, some}
+use native.Mathlib.Nat.{sub-zero, add-zero, zero-add, add-assoc}
 use native.Mathlib.Numerals.{add-one}
 use native.Mathlib.Omega.{arith}
-use lib.ListN.{length, set, replicate, getD, take, drop, length-append, length-replicate, drop-of-length-le}
+use lib.ListN.{length, set, replicate, getD, drop, length-append, length-replicate, drop-of-length-le}
 use lib.Seq.{sets, sets-eq, drop-cons}
 use Rattle.rules.specs.declared.Mode.{Mode}
 use Rattle.rules.specs.declared.Mode.the-variants.{Plain, Opened, OneDigit, TwoDigits, Closed, Spoilt}
 use Rattle.rules.specs.declared.Picture.{Picture}
-use Rattle.rules.specs.Text.{isPlain, isMark, next, copies, ended, onto, expandFrom, expand, isSome, orNone, isSpelled, symbolsOf, mostSymbols, roomOf}
+use Rattle.rules.specs.Text.{isPlain, isMark, next, copies, ended, onto, expandFrom, isSome, isSpelled, symbolsOf, mostSymbols, roomOf}
 use Rattle.rules.proofs.Logic.{by-test}
+use Rattle.rules.proofs.Lists.{sets-append}
 use Rattle.text.specs.Expansion.{endsIn, gives, filled}
 
 -- Writing into a room.
-
-pub sets-append : (xs ys l : List ℕ) (at : ℕ) → sets l at (xs ++ ys) ≡ sets (sets l at xs) (at + length xs) ys
-sets-append [] ys l at = simp add-zero
-sets-append (x ∷ xs) ys l at = rw (add-suc, ← suc-add) (sets-append xs ys (set l at x) (suc at))
 
 pub fill-step : (out : List ℕ) (at n k b : ℕ) → k < n → sets out (at + k) (replicate (n - k) b) ≡ sets (set out (at + k) b) (at + (k + 1)) (replicate (n - (k + 1)) b)
 fill-step out at n k b h =

@@ -1,16 +1,16 @@
 -- What is settled at each way through `settle`. Assumes nothing.
-use Prim.Native.Nat.{ℕ, _+_, _*_, _/_, _^_, _<_, _≤_}
+use Prim.Native.Nat.{ℕ, _+_, _/_, _^_, _<_, _≤_}
 use mathlib.Core.Path.{_≡_, refl, sym, ap, _∙_}
-use mathlib.Core.Bool.{Bool, true, false, cond, not, _&&_, _||_, true≢false, and-false, or-true}
+use mathlib.Core.Bool.{Bool, true, false, not, _&&_, _||_, true≢false, and-false}
 use native.Mathlib.Omega.{arith}
-use borrow.Author.Tests.{lt-ltb, le-ltb, lt-leb, le-leb, ltb-true, ltb-false, leb-false, eq-eqb, ne-eqb, eqb-true, eqb-false, not-true, not-false}
+use borrow.Author.Tests.{lt-ltb, lt-leb, le-leb, ltb-true, ltb-false, eqb-true, eqb-false, not-true, not-false}
 use lib.Dec.{leb, ltb, eqb}
 use lib.IntN.{ℤ, natAbs}
 use Rattle.rules.specs.Numbers.{firstOf}
 use Rattle.rules.specs.Form.{Form}
 use Rattle.rules.specs.Shape.{mostDigits, digitCount, whole, places}
 use Rattle.rules.specs.Edit.{inRange, isNegative, aligned, isMinus, hasSign, tooBig}
-use Rattle.rules.proofs.Logic.{by-test, both}
+use Rattle.rules.proofs.Logic.{by-test}
 use Rattle.rules.proofs.Exact.{digit-sum}
 use Rattle.decimal.specs.declared.sign.Parts.{Parts}
 use Rattle.decimal.specs.declared.align.Aligned.{Aligned}

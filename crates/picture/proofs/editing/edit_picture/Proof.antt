@@ -1,5 +1,5 @@
 -- `picture::editing::edit_picture` meets its contract: the roles lent are those of the form. Assumes nothing.
-use mathlib.Core.Path.{_≡_, _∙_, ap}
+use mathlib.Core.Path.{_≡_, _∙_}
 use borrow.Author.Needs.{needs}
 use mir.Facts.{toZ-ofZ}
 use lib.ListN.{length}

@@ -1,5 +1,5 @@
 -- `picture::reading::read_picture` meets its contract: the roles lent are those of the form. Assumes nothing.
-use mathlib.Core.Path.{_≡_, _∙_, ap}
+use mathlib.Core.Path.{_≡_, _∙_}
 use borrow.Author.Needs.{needs}
 use lib.ListN.{length}
 use Rattle.picture.proofs.Held.{size-le, form-parts}
