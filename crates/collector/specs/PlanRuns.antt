@@ -1,5 +1,5 @@
--- 01, the collector's calls on plans: rows as runs of bytes, eight a number. "For editing, a row's run must be exactly eight bytes a field, else
--- LENGTH; for reading, fewer than that is ROOM and spare bytes stay untouched." Assumes nothing.
+-- RULES 7.4: the C calls on plans, with rows as runs of bytes, eight a number: at least so many for reading, exactly so many for editing. Assumes
+-- nothing.
 use mathlib.Core.Path.{_≡_}
 use mathlib.Core.Bool.{cond}
 use mathlib.Core.List.{List}
@@ -10,6 +10,7 @@ use lib.IntN.{ℤ, pos}
 use lib.ListN.{length}
 use Rattle.rules.specs.Numbers.{LENGTH, PLAN}
 use Rattle.rules.specs.Form.{Form}
+use Rattle.rules.specs.Layout.{mostPictures}
 use Rattle.rules.specs.Answers.{answer, lentAfter, rowLength, unsaid, amounts, numberOver, RecordReads, readBefore, recordAnswer, recordOf, rowNumber, rowAnswer, ByPlan}
 use Rattle.rules.specs.Collector.{packed, rowBytes, rowIn}
 
@@ -30,9 +31,9 @@ notPlanRun lent r after = (r ≡ packed (answer PLAN 0 0 (pos 0))) × (after ≡
 abbrev pub PlanReadRunIs : List ℕ → List ℕ → List ℕ → ℕ → List ℕ → Type 0
 PlanReadRunIs b rec run r after = ByPlan b (notPlanRun run r after) (λ φs. RecordRunIs φs rec run r after)
 
--- the numbers in a run of whole ones, at most 32 of them; else 0, which no plan's row has
+-- the numbers in a run of whole ones, no more of them than a plan has fields; else 0, which no plan's row has
 unfoldable pub rowCount : ℕ → ℕ
-rowCount n = cond (eqb (n % 8) 0) (cond (ltb 32 (n / 8)) 0 (n / 8)) 0
+rowCount n = cond (eqb (n % 8) 0) (cond (ltb mostPictures (n / 8)) 0 (n / 8)) 0
 
 -- the row in a run of exactly eight bytes a field; else none
 abbrev pub runFits : List Form → List ℕ → {A : Type 0} → A → A → A

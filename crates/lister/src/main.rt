@@ -1,6 +1,6 @@
-// The record lister: prints the listing of standard input, a layout line and then one record a line. What each line of the listing says
-// is proved of the library `listing`; here the input is read and taken apart, and each line printed as soon as it is written. Each
-// function that lists answers how many lines it has printed, so that its contract says that none is left out.
+// The record lister (RULES 8): prints the listing of its standard input. What each line of the listing says is proved of the library
+// `listing`; here the input is read and taken apart, and each line printed as soon as it is written. Each function that lists answers how
+// many lines the listing has, having gone through all of them; that each is printed, once and in order, is left to the comparison.
 use listing::INPUT;
 use listing::LINE;
 use listing::PLAN;

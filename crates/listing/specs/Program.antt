@@ -14,7 +14,7 @@ use Rattle.rules.specs.Lister.{linesFrom, layoutLine, recordLine, overLimit}
 pub use Rattle.rules.specs.Layout.{HasPlan}
 pub use Rattle.rules.specs.Lister.{mostInput}
 
--- the record that the lister keeps; no accepted layout's record is longer (record-fits in proofs/Layouts.antt)
+-- RULES 8.6: the record that the lister keeps; no accepted layout's record is longer (record-fits in proofs/Layouts.antt)
 abbrev pub mostRecord : ℕ
 mostRecord = 2048
 

@@ -4,6 +4,9 @@
 mod number; // number.rt: a number in decimal
 mod words; // words.rt: the words of a line
 
+use rules::MOST_INPUT;
+use rules::MOST_PICTURES;
+use rules::Picture;
 use words::put_line;
 ghost use mathlib.Core.Path.{_≡_};
 ghost use Prim.Native.Nat.{_+_, _≤_};
@@ -13,18 +16,16 @@ ghost use Rattle.rules.specs.Answers.{compileMemory};
 ghost use Rattle.rules.specs.Lister.{mostInput, overLimit};
 ghost use Rattle.listing.specs.Lines.{listedOf, layoutText, RecordLineIs, lineLength, lineMemory, keptIn, toEnd};
 
-// The longest line: three numbers, 32 values of at most 21 characters, the commas and the end.
-pub const LINE: usize = 767;
+// The longest line: three numbers of 20 digits, their two commas, a comma and at most 21 characters a value, and the end.
+pub const LINE: usize = 3 * 20 + 2 + 22 * MOST_PICTURES + 1;
 
-// The longest plan: 32 fields of 64 positions. With as many bytes lent no layout is refused for room.
-pub const PLAN: usize = 2147;
+// The longest record: 2,048 characters, which the lister keeps (RULES 8.6).
+pub const RECORD: usize = MOST_PICTURES * Picture::MOST_SYMBOLS;
 
-// The record that the lister keeps.
-pub const RECORD: usize = 2048;
+// The longest plan. With as many bytes lent no layout is refused for room.
+pub const PLAN: usize = 1 + 3 * MOST_PICTURES + 2 + RECORD;
 
-const MOST_INPUT: usize = 65536;
-
-// One byte more than the limit, so that an input over the limit is noticed.
+// A byte more than the limit (RULES 8.2), so that an input over it is noticed.
 pub const INPUT: usize = MOST_INPUT + 1;
 
 // The plan's length, 0 where the layout is refused; and the line's.
@@ -63,7 +64,7 @@ pub fn record_line(k: usize, plan: &[u8], record: &[u8], out: &mut [u8]) -> usiz
     ensures line { λ r. ⌜ RecordLineIs k (now (plan .entry)) (now («record» .entry)) (now (out .entry)) r (now (out .exit)) ⌝ }
     ensures within { λ r. ⌜ r ≤ length (now (out .exit)) ⌝ }
 {
-    let mut row = [0i64; 32];
+    let mut row = [0i64; MOST_PICTURES];
     let answer = planread::read(plan, record, &mut row);
     put_line(
         k as u64,
@@ -90,7 +91,7 @@ pub fn kept_line(k: usize, plan: &[u8], line: &[u8], record: &mut [u8], out: &mu
     record_line(k, plan, &record[..n], out)
 }
 
-// Where the line that begins at `from` ends: the place of the next LF, or the input's end.
+// RULES 8.1: where the line that begins at `from` ends: the place of the next LF, or the input's end.
 pub fn line_end(input: &[u8], from: usize) -> usize
     ensures { λ r. ⌜ r ≡ from + toEnd (drop from (now (input .entry))) ⌝ }
 {

@@ -7,6 +7,7 @@ ghost use mathlib.Core.Path.{_≡_};
 ghost use mathlib.Core.List.{[], _∷_, map};
 ghost use Prim.Native.Nat.{_+_, _*_, _≤_};
 ghost use lib.ListN.{length, take};
+ghost use Rattle.rules.specs.Layout.{mostPictures};
 ghost use Rattle.rules.specs.Lister.{decimal, signedDecimal};
 ghost use Rattle.listing.specs.Put.{Puts, behind, headOf, end};
 ghost use Rattle.listing.specs.Lines.{textOf, lineLength, lineMemory};
@@ -31,7 +32,7 @@ fn put_value(m: i64, at: usize, out: &mut [u8]) -> usize
 
 // The first `count` values of a row, a comma before each.
 pub(crate) fn put_values(row: &[i64], count: usize, at: usize, out: &mut [u8]) -> usize
-    requires { ⌜ (count ≤ length (now row)) × (count ≤ 32) × (at + 22 * count ≤ length (now out)) ⌝ }
+    requires { ⌜ (count ≤ length (now row)) × (count ≤ mostPictures) × (at + 22 * count ≤ length (now out)) ⌝ }
     ensures { λ r. ⌜ Puts (behind (map signedDecimal (take count (now (row .entry))))) (now (out .entry)) at (now (out .exit)) r ⌝ }
 {
     let mut place = at;
@@ -69,7 +70,7 @@ pub(crate) fn put_line(
     count: usize,
     out: &mut [u8],
 ) -> usize
-    requires { ⌜ (count ≤ length (now row)) × (count ≤ 32) ⌝ }
+    requires { ⌜ (count ≤ length (now row)) × (count ≤ mostPictures) ⌝ }
     ensures answer { λ r. ⌜ r ≡ lineLength (textOf k number field (take count (now (row .entry)))) (now (out .entry)) ⌝ }
     ensures memory { λ _. ⌜ now (out .exit) ≡ lineMemory (textOf k number field (take count (now (row .entry)))) (now (out .entry)) ⌝ }
     ensures within { λ r. ⌜ r ≤ length (now (out .exit)) ⌝ }
