@@ -1,25 +1,25 @@
 -- Reading one field into a run: ROOM comes between the refusals that `picture::read` gives, which are told apart by their numbers. Assumes
 -- nothing.
-use Prim.Native.Nat.{ℕ, zero, suc, _+_, _*_, _<_, _≤_}
+use Prim.Native.Nat.{ℕ, zero, suc, _+_, _<_, _≤_}
 use mathlib.Core.Path.{_≡_, refl, sym, ap, _∙_}
-use mathlib.Core.Bool.{Bool, true, false, cond}
+use mathlib.Core.Bool.{Bool, true, false}
 use mathlib.Core.List.{List, [], _∷_, _++_}
 use mathlib.Core.Option.{Option, none, some}
 use mathlib.Core.Logic.{_⊎_, ⊎-elim}
 use native.Mathlib.Omega.{arith}
 use borrow.Author.Tests.{lt-ltb, le-ltb, le-leb, eqb-true, eqb-false}
 use lib.Dec.{leb, ltb, eqb}
-use lib.IntN.{ℤ, pos}
-use lib.ListN.{length, take, drop}
+use lib.IntN.{ℤ}
+use lib.ListN.{length, drop}
 use Rattle.rules.specs.declared.Answer.{Answer}
-use Rattle.rules.specs.Numbers.{ROOM, LENGTH, CONVERSION, when, unless, firstOf}
+use Rattle.rules.specs.Numbers.{ROOM, LENGTH, when, unless, firstOf}
 use Rattle.rules.specs.Form.{size, formOf, meaning}
 use Rattle.rules.specs.Text.{textFits, isSpelled, symbolsOf, mostSymbols}
 use Rattle.rules.specs.Shape.{shape, digitsFit, verdict}
 use Rattle.rules.specs.Answers.{answer, lentAfter, unread, said, readAnswer, ReadIs}
 use Rattle.rules.specs.Collector.{packed, bytesOf, readRunNumber, ReadRunIs}
 use Rattle.rules.proofs.Logic.{by-test}
-use Rattle.rules.proofs.Firsts.{first-here, first-next, first-pass, first-stop, lent-kept}
+use Rattle.rules.proofs.Firsts.{first-pass, first-stop, lent-kept}
 use Rattle.wire.specs.Run.{putAt}
 use Rattle.wire.proofs.Bytes.{eight-bytes}
 

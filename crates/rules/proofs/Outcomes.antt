@@ -8,7 +8,6 @@ use Prim.Native.Nat.{ℕ, zero, suc}
 use native.Mathlib.Omega.{arith}
 use lib.IntN.{ℤ}
 use lib.ListN.{length, take, drop}
-use Rattle.rules.specs.Words.{one}
 use Rattle.rules.specs.Numbers.{firstOf}
 use Rattle.rules.specs.Form.{Form, meaning, size}
 use Rattle.rules.specs.Shape.{digitsFit, verdict}

@@ -1,13 +1,13 @@
 -- The sum of the weights holds what the rules count: five counts, seven bits each, since no form that is judged has more than 64 positions. Assumes
 -- nothing.
-use Prim.Native.Nat.{ℕ, zero, suc, _+_, _*_, _/_, _%_, _<_, _≤_}
-use mathlib.Core.Path.{_≡_, refl, sym, ap, _∙_}
-use mathlib.Core.Bool.{Bool, true, false, not, _&&_, _||_}
+use Prim.Native.Nat.{ℕ, zero, suc, _+_, _<_, _≤_}
+use mathlib.Core.Path.{_≡_, refl, sym, _∙_}
+use mathlib.Core.Bool.{Bool, not}
 use mathlib.Core.List.{List, [], _∷_}
 use native.Mathlib.Omega.{arith}
 use borrow.Author.Tests.{eq-eqb, eqb-true, lt-leb, ltb-true, ltb-false, le-leb, ne-eqb}
 use lib.Dec.{eqb, leb, ltb}
-use lib.ListN.{length, getD}
+use lib.ListN.{getD}
 use Rattle.rules.specs.Words.{any, count, one, times}
 use Rattle.rules.specs.Roles.{isDigit, isFirstDrifting, isNine, isSign, isSuppressible, roleLimit}
 use Rattle.rules.proofs.Logic.{by-test, eqb-swap}

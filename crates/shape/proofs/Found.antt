@@ -1,16 +1,16 @@
 -- By the judge's tables the pass finds what the rules say: the phases at V and at the end decide the rules that the machine holds, the sums the
 -- others, one count a rule. Assumes nothing.
-use Prim.Native.Nat.{ℕ, _+_, _*_, _<_, _≤_}
+use Prim.Native.Nat.{ℕ, _+_, _<_, _≤_}
 use mathlib.Core.Path.{_≡_, refl, sym, ap, _∙_}
-use mathlib.Core.Bool.{Bool, true, false, cond, not, _&&_, _||_, and-assoc}
+use mathlib.Core.Bool.{Bool, false, not, _&&_, _||_, and-assoc}
 use mathlib.Core.List.{List}
 use native.Mathlib.Omega.{arith}
-use borrow.Author.Tests.{leb-true, le-leb}
-use lib.Dec.{eqb, leb, ltb}
+use borrow.Author.Tests.{leb-true}
+use lib.Dec.{eqb, leb}
 use lib.ListN.{take, drop}
-use Rattle.rules.specs.Words.{any, count, one, times}
+use Rattle.rules.specs.Words.{any, count, one}
 use Rattle.rules.specs.Text.{mostSymbols}
-use Rattle.rules.specs.Roles.{driftsSign, isDigit, isFirstDrifting, isNine, isSign, isSuppressible, lastKind}
+use Rattle.rules.specs.Roles.{driftsSign, isDigit, isFirstDrifting, isNine, isSign, isSuppressible}
 use Rattle.rules.specs.Form.{Form, size}
 use Rattle.rules.specs.Shape.{digitsFit, driftsBeforeV, formShape, ninesLast, oneSign, staticsPlaced, suppressedPlaces}
 use Rattle.rules.specs.Good.{bears, good, inOrder, marksLast, oneDollar}

@@ -1,7 +1,7 @@
 -- The machine's phase is an image of what has been seen: one role further is one step of the table. The rule of the table speaks of what each phase
 -- stands for; that all which leads to a phase is led on alike is a test that is computed over all flags, roles just seen and columns. Assumes nothing.
 use Prim.Native.Nat.{ℕ, _+_, _<_, _≤_}
-use mathlib.Core.Path.{_≡_, refl, sym, ap, _∙_}
+use mathlib.Core.Path.{_≡_, refl, ap, _∙_}
 use mathlib.Core.Bool.{Bool, true, false, cond, not, _&&_, _||_, and-false, false≢true}
 use mathlib.Core.List.{List, [], _∷_}
 use native.Mathlib.Omega.{arith}

@@ -1,8 +1,8 @@
 -- What the two findings say: of a plan's field whether its form is good, of a picture, whose form is well made, its shape and its digits. The findings
 -- are the rules themselves, so that this is a matter of and. Assumes nothing.
 use Prim.Native.Nat.{ℕ, _+_, _≤_}
-use mathlib.Core.Path.{_≡_, refl}
-use mathlib.Core.Bool.{Bool, true, false, _&&_, and-false, and-assoc, and-true}
+use mathlib.Core.Path.{_≡_}
+use mathlib.Core.Bool.{true, _&&_, and-false, and-assoc, and-true}
 use native.Mathlib.Omega.{arith}
 use borrow.Author.Tests.{leb-true, le-leb}
 use lib.Dec.{leb, ltb}
@@ -13,7 +13,6 @@ use Rattle.rules.specs.Form.{Form, size}
 use Rattle.rules.specs.Shape.{digitsFit, formShape}
 use Rattle.rules.specs.Good.{bears, fitsRoom, good, inOrder, marksLast, oneDollar, wellMade}
 use Rattle.rules.proofs.Logic.{both, by-test}
-use Rattle.shape.specs.declared.Judged.{Judged}
 use Rattle.shape.specs.Judge.{judgedOf, ruled}
 
 room-size : (n v : ℕ) → fitsRoom n v ≡ true → n ≤ mostSymbols

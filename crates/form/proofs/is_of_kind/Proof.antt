@@ -1,6 +1,4 @@
 -- `form::is_of_kind` meets its contract. Assumes nothing.
-use borrow.Author.Needs.{needs}
-use Rattle.rules.proofs.Decide.{decide}
 use Rattle.form.proofs.Counts.{kind-none, kind-some}
 use Rattle.form.proofs.is_of_kind.Statement.{statement}
 use Rattle.form.proofs.is_of_kind.Tie as tie

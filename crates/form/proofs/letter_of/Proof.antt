@@ -1,6 +1,5 @@
 -- `form::letter_of` meets its contract: a symbol for each kind. Assumes nothing.
 use mathlib.Core.Path.{_≡_}
-use borrow.Author.Needs.{needs}
 use native.Mathlib.Omega.{arith}
 use Rattle.form.specs.Rooms.{kindLetter}
 use Rattle.form.proofs.letter_of.Statement.{statement}

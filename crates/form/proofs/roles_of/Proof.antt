@@ -1,5 +1,5 @@
 -- `form::roles_of` meets its contract. The loop keeps `Walk`: the roles placed and what is left make the whole. Assumes nothing.
-use mathlib.Core.Path.{_≡_, sym, _∙_}
+use mathlib.Core.Path.{sym, _∙_}
 use mathlib.Core.Logic.{⊎-elim}
 use borrow.Author.Needs.{needs}
 use Prim.Native.Nat.{_-_, _≤_}
