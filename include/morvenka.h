@@ -10,8 +10,8 @@
  *   picture  an ASCII text of 1 to 128 bytes, such as ZZ9V.99 or $$,$$9 or (3)9CR. It has no zero byte at its end.
  *   n        the characters of the picture's field, 1 to 64: its symbols other than V, with the factors written out.
  *   f        the scale of the field: the number of its digits after V, 0 without V.
- *   value    a whole number M and a scale q, worth M / 10^q. M lies strictly between -10^15 and 10^15, q is 0 to 15.
- *   layout   1 to 32 pictures, each ended by a semicolon, at most 4,128 bytes: ZZ9V.99;-9;
+ *   value    M / 10^q, by a whole number M of 15 digits at most and a scale q of 0 to 15.
+ *   layout   a line of pictures with a semicolon behind each: ZZ9V.99;-9; Up to 32 pictures and 4,128 bytes.
  *   record   the fields of a layout, one after another with nothing between: at most 2,048 characters.
  *   plan     a layout compiled: plain bytes to be used for any number of records, and to be kept or sent as they are.
  *   row      one number a field, in eight bytes, little-endian, two's complement: the M of the field's value at its own f.
@@ -60,14 +60,14 @@ enum morvenka_numbers {
     MORVENKA_LONG = 3,        /* the picture has over 64 symbols, V counted, with the factors written out */
     MORVENKA_SHAPE = 4,       /* the picture's symbols don't stand together like this */
     MORVENKA_DIGITS = 5,      /* the picture has no digit, or over 15 */
-    MORVENKA_VALUE = 6,       /* M is not strictly between -10^15 and 10^15, or q is over 15 */
+    MORVENKA_VALUE = 6,       /* M has over 15 digits, or q is over 15 */
     MORVENKA_ROOM = 7,        /* the lent run is shorter than needed */
     MORVENKA_SIZE = 8,        /* too large for the digits before V; or negative, not cut to zero, with no sign in the picture */
     MORVENKA_LENGTH = 9,      /* the field or record has another length; for editing, the row has not eight bytes a field */
     MORVENKA_CONVERSION = 10, /* no value has this field */
-    MORVENKA_COUNT = 11,      /* the layout is empty, over 4,128 bytes, not ended by a semicolon, or over 32 pictures */
-    MORVENKA_PLAN = 12,       /* these bytes are not the plan of any accepted layout */
-    MORVENKA_INPUT = 13       /* the record lister's input is over 65,536 bytes; no call below gives it */
+    MORVENKA_COUNT = 11,      /* the layout is empty, too long, without its last semicolon, or has over 32 pictures */
+    MORVENKA_PLAN = 12,       /* no accepted layout has these bytes as its plan */
+    MORVENKA_INPUT = 13       /* the record lister was given over 65,536 bytes; no call below gives it */
 };
 
 /* Sizes in bytes that suffice for anything accepted. */
@@ -140,7 +140,7 @@ uint64_t morvenka_edit(const uint8_t *text, size_t text_len, int64_t m, uint64_t
 
 /*
  * Reads a field by its picture; its M, at the picture's scale f, goes into the first eight bytes of row.
- * A field is accepted exactly when some value edits to it, and that value is the only one: a blank is never a 9.
+ * Either one value and no other has this very field, or the call refuses it: no blank stands for a 9.
  * Success: the length is 1.
  * Refusals in order: the picture's own; LENGTH, if the field has not n characters; ROOM, if the row has fewer than eight bytes;
  * CONVERSION.

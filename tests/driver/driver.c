@@ -140,7 +140,7 @@ static int fill(void)
     return got > 0;
 }
 
-/* Moves on to the next line; 0 if there is none. A last line without its end counts if it isn't empty. */
+/* Moves on to the next line; 0 if there is none. What follows the last line end is a line where there is anything. */
 static int next_line(void)
 {
     const char *end;

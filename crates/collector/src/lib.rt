@@ -1,5 +1,5 @@
-// The calls of a C program, on plain numbers and byte runs: a run is a pointer and then its length. Each answers one 64-bit
-// number, the number plus 256 times the field plus 65,536 times the length. include/morvenka.h declares them.
+// The calls of a C program, on plain numbers and byte runs: a run is a pointer and then its length. Each answers
+// number, field and length packed into one (RULES 7.2). include/morvenka.h declares them.
 use rules::Answer;
 use rules::MOST_PICTURES;
 ghost use mathlib.Core.Path.{_≡_};

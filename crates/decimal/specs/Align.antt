@@ -1,4 +1,4 @@
--- "Alignment: T is the magnitude times 10^f divided by 10^q, cut toward zero", where the magnitude without its fraction is below 10^i.
+-- RULES 3.2: a magnitude moved from one scale to another without its fraction, where what stands before the point is below 10^i (3.4).
 -- Assumes nothing.
 use mathlib.Core.Bool.{true, false, cond, _&&_}
 use Prim.Native.Nat.{ℕ, _+_, _*_, _/_, _^_}

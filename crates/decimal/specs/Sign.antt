@@ -7,7 +7,7 @@ use Rattle.rules.specs.Shape.{mostDigits}
 use Rattle.rules.specs.Edit.{isNegative}
 use Rattle.decimal.specs.declared.sign.Parts.{Parts}
 
--- "M lies strictly between -10^15 and 10^15."
+-- RULES 3.1: M has 15 digits at most
 unfoldable pub partsOf : ℤ → Parts
 partsOf m =
     cond (ltb (natAbs m) (10 ^ mostDigits))

@@ -1,4 +1,4 @@
--- Not 01's words: what the steps of the calls hand on. Each is judged from the roles alone, so that a step knows only what it uses.
+-- Beyond RULES: what the steps of the calls hand on. Each is judged from the roles alone, so that a step knows only what it uses.
 -- Assumes nothing.
 use mathlib.Core.Bool.{Bool, cond, _&&_}
 use mathlib.Core.List.{List}

@@ -31,7 +31,7 @@ pub(crate) fn digit_at(ds: &[u8], j: usize) -> u8
     0
 }
 
-// The first suppressible digit or the first drifting symbol. V and the kind have no part in it.
+// RULES 3.9: the first position that opens the stretch. V and the kind have no part in it.
 fn opening_of(roles: &[u8]) -> usize
     ensures { λ r. ⌜ ((vee kind : ℕ) → r ≡ opening (formed (now (roles .entry)) vee kind)) ⌝ }
 {
@@ -43,7 +43,7 @@ fn opening_of(roles: &[u8]) -> usize
     roles.len()
 }
 
-// Where printing starts: the first position that is V's place, or holds a nine or a nonzero digit. j digits stand before
+// RULES 3.8, where printing starts: the first position that is V's place, or holds a nine or a nonzero digit. j digits stand before
 // position k.
 fn start_of(roles: &[u8], vee: usize, ds: &[u8]) -> usize
     ensures { λ r. ⌜ ((kind : ℕ) → r ≡ start (formed (now (roles .entry)) vee kind) (now (ds .entry))) ⌝ }
@@ -69,7 +69,7 @@ fn start_of(roles: &[u8], vee: usize, ds: &[u8]) -> usize
     vee
 }
 
-// A drifting symbol's character takes the last position before `to`, and no position, which is `past`, where nothing drifts.
+// RULES 3.13: the drifting character stands last before `to`; where nothing drifts it has no place, which is `past`.
 fn spot_of(kind: u8, to: usize, past: usize) -> usize
     ensures { λ r. ⌜ r ≡ cond (drifts kind) (to - 1) past ⌝ }
 {
@@ -82,7 +82,7 @@ fn spot_of(kind: u8, to: usize, past: usize) -> usize
     past
 }
 
-// Everything is suppressed: no digit is a nine, and the magnitude is 0.
+// RULES 3.7, everything is suppressed: no digit is a nine, and the magnitude is 0.
 pub(crate) fn is_blank(nine: bool, t: u64) -> bool
     ensures { λ r. ⌜ r ≡ (not nine && eqb t 0) ⌝ }
 {

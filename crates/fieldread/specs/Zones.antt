@@ -1,4 +1,4 @@
--- Not 01's words: what reading in one pass has found before position k, which each step takes one position further, and what the last step
+-- Beyond RULES: what reading in one pass has found before position k, which each step takes one position further, and what the last step
 -- makes of it. proofs/Passing.antt proves that this decides whether the field is that of its value. Assumes nothing.
 use mathlib.Core.Path.{_≡_}
 use mathlib.Core.Bool.{Bool, true, false, cond, not, _&&_, _||_}

@@ -1,11 +1,11 @@
 -- The kind of a picture can be counted by its symbols: the positions with number k are those with the symbol of kind k. Assumes nothing.
-use Prim.Native.Nat.{ℕ, zero, suc, _+_, _-_, _<_, _≤_}
+use Prim.Native.Nat.{ℕ, suc, _+_, _-_, _<_, _≤_}
 use Prim.Native.Char.{code}
 use mathlib.Core.Path.{_≡_, refl, sym, ap, _∙_}
-use mathlib.Core.Bool.{Bool, true, false, cond, true≢false, not, _&&_, _||_, and-false}
+use mathlib.Core.Bool.{Bool, true, false, true≢false, not, _&&_, _||_}
 use mathlib.Core.List.{List, [], _∷_}
 use native.Mathlib.Omega.{arith}
-use borrow.Author.Tests.{eqb-true, eqb-false, eq-eqb, ne-eqb, leb-true, leb-false, le-leb, lt-leb, not-true}
+use borrow.Author.Tests.{eqb-true, eqb-false, eq-eqb, ne-eqb, leb-true, le-leb, lt-leb, not-true}
 use lib.Dec.{eqb, leb}
 use lib.ListN.{length, getD}
 use Rattle.rules.specs.Words.{text, one, times, place, same}
@@ -126,7 +126,7 @@ module _ (k kind kinds : ℕ) (ns : List ℕ) (h : Asked k kind kinds ns) (r : B
 pub asked-all : (kind kinds : ℕ) (ns : List ℕ) → Asked 7 kind kinds ns → (kind ≡ kindUpTo lastKind ns) × (kinds ≡ suppressing lastKind ns)
 asked-all kind kinds ns h = (h .kind-is, h .kinds-are)
 
--- at most one kind suppresses: the two sentences of 01
+-- at most one kind suppresses: RULES 2.6 and 2.7
 pub one-kind : (s : List ℕ) → leb (suppressing lastKind (numbers s)) 1 ≡ (oneDrifts s && suppressionApart s)
 unfolding oneDrifts suppressionApart
 one-kind s =

@@ -12,7 +12,7 @@ ghost use Rattle.rules.specs.Form.{number, numbers, suppresses, ofKind, rolesFr
 ghost use Rattle.rules.specs.Shape.{oneV, oneDrifts, suppressionApart};
 ghost use Rattle.form.specs.Rooms.{Whole, roleOf, rolesRoom, placedIn, suppressionOf, meaningOf, kindLetter, markNumber};
 
-// Roles with their count, in a room of 64; unused places are 0.
+// Roles with their count in a room of 64, 0 behind them.
 pub struct Roles {
     pub at: [u8; Picture::MOST_SYMBOLS],
     pub count: usize,
@@ -76,7 +76,7 @@ fn vee_of(picture: Picture) -> usize
     end
 }
 
-// "At most one V."
+// RULES 2.5: one V at most.
 pub fn one_v(picture: Picture) -> bool
     ensures { λ r. ⌜ r ≡ oneV (heldIn picture) ⌝ }
 {
@@ -134,7 +134,7 @@ fn suppression_in(picture: Picture) -> Suppression
     Suppression { kind, kinds }
 }
 
-// "At most one kind drifts. Z and * don't appear together, and neither appears with a drifting symbol."
+// RULES 2.6 and 2.7: of the six kinds one suppresses at most.
 pub fn one_suppresses(picture: Picture) -> bool
     ensures { λ r. ⌜ r ≡ (oneDrifts (heldIn picture) && suppressionApart (heldIn picture)) ⌝ }
 {

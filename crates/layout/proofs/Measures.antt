@@ -1,4 +1,4 @@
--- The pass that judges and measures: one turn of it, and what its end says in the words of 01. Assumes nothing.
+-- The pass that judges and measures: one turn of it, and what its end says in the words of the rules. Assumes nothing.
 use Prim.Native.Nat.{ℕ, zero, suc, _+_, _-_, _*_, _<_, _≤_}
 use mathlib.Core.Path.{_≡_, refl, sym, ap, _∙_}
 use mathlib.Core.List.{List, [], _∷_, map}

@@ -22,7 +22,7 @@ pub(crate) fn next_end(layout: &[u8], from: usize) -> usize
     end
 }
 
-// COUNT is given where this fails. A layout that is empty isn't ended by `;`.
+// RULES 5.1: COUNT is given where this fails. A layout that is empty isn't ended by `;`.
 pub(crate) fn count_fits(layout: &[u8]) -> bool
     ensures { λ r. ⌜ r ≡ countFits (now (layout .entry)) ⌝ }
 {

@@ -12,7 +12,7 @@ use writing::write;
 ghost use mathlib.Core.Path.{_≡_};
 ghost use Rattle.rules.specs.Answers.{compileAnswer, compileMemory};
 
-// "Compiling: 11, the first bad picture, 7." On success the plan stands first in `plan`, and the length is the plan's.
+// RULES 6.6: 11, the first bad picture, 7. On success the plan stands first in `plan`, and the length is the plan's.
 pub fn compile(layout: &[u8], plan: &mut [u8]) -> Answer
     ensures answer { λ r. ⌜ r ≡ compileAnswer (now (layout .entry)) (now (plan .entry)) ⌝ }
     ensures memory { λ _. ⌜ now (plan .exit) ≡ compileMemory (now (layout .entry)) (now (plan .entry)) ⌝ }

@@ -24,7 +24,7 @@ fn form_in(text: &[u8]) -> Meaning
     form_of(picture)
 }
 
-// "Per field three bytes: n; the number of positions before V (n if there is no V); the kind": a form's header, then its roles.
+// RULES 5.3: a form's header of three bytes, n, the positions before V and the kind, then its roles.
 fn put_form(form: Meaning, plan: &mut [u8], header: usize, at: usize)
     requires { ⌜ FormFits form (length (now plan)) header at ⌝ }
     ensures { λ _. ⌜ now (plan .exit)
@@ -58,7 +58,7 @@ fn put_forms(layout: &[u8], plan: &mut [u8], headers: usize, positions: usize)
     }
 }
 
-// The whole plan: "two sections in this order, each after its count", that of the positions "two bytes, high byte first".
+// The whole plan (RULES 5.3): the count of the positions has two bytes, the high one first.
 pub(crate) fn write(layout: &[u8], plan: &mut [u8], count: usize, width: usize)
     requires { ⌜ Settled (now layout) (length (now plan)) count width ⌝ }
     ensures { λ _. ⌜ now (plan .exit) ≡ sets (now (plan .entry)) 0 (planOf (forms (now (layout .entry)))) ⌝ }

@@ -1,4 +1,4 @@
--- What the calls on one picture answer once its text is accepted: 01's orders behind the picture's own refusals, over a form. Assumes
+-- What the calls on one picture answer once its text is accepted: the orders of RULES 6.6 behind the picture's own refusals, over a form. Assumes
 -- nothing.
 use Prim.Native.Nat.{ℕ, _≤_}
 use mathlib.Core.List.{List, [], _∷_}

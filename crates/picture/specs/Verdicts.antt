@@ -1,4 +1,4 @@
--- What the judging of a text hands on: the verdict of 01 and the picture. Assumes nothing.
+-- What the judging of a text hands on: the verdict (RULES 2.14) and the picture. Assumes nothing.
 use Prim.Native.Nat.{ℕ}
 use mathlib.Core.List.{List, [], _∷_}
 use Rattle.rules.specs.Numbers.{SHAPE, DIGITS, unless, firstOf}

@@ -1,4 +1,4 @@
-// A value as the field of a picture. The field is built in a room of its own and copied out once every refusal is settled.
+// A value as the field of a picture. The field is made beside the lent memory and copied there when no refusal can come any more.
 use answer::refused;
 use form::form_of;
 use rules::Answer;

@@ -1,4 +1,4 @@
-// The refusals of a picture text, in 01's order: its bytes, its symbols, their number, its shape, its digits.
+// The refusals of a picture text, in the order of RULES 2.14: its bytes, its symbols, their number, its shape, its digits.
 use form::form_of;
 use form::one_suppresses;
 use form::one_v;

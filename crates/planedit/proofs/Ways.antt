@@ -1,4 +1,4 @@
--- What 01 answers for a row, at each way through `edit_row`, and for any bytes. Assumes nothing.
+-- What is answered for a row, at each way through `edit_row`, and for any bytes. Assumes nothing.
 use mathlib.Core.Path.{_≡_, refl, sym, _∙_}
 use mathlib.Core.Bool.{Bool, true, false, not, true≢false}
 use mathlib.Core.List.{List, [], _∷_, _++_}

@@ -1,4 +1,4 @@
--- Not 01's words: what the steps of editing a row by a plan ask of the bytes and of the row. Assumes nothing.
+-- Beyond RULES: what the steps of editing a row by a plan ask of the bytes and of the row. Assumes nothing.
 use mathlib.Core.Path.{_≡_}
 use mathlib.Core.Bool.{true}
 use mathlib.Core.List.{List}

@@ -22,7 +22,7 @@ struct Bad {
     field: u8,
 }
 
-// "the first field with 6 or 8 (6 before 8)"
+// RULES 6.6: the first field that has VALUE or SIZE, and of one field VALUE first.
 fn first_bad(plan: &[u8], row: &[i64]) -> Bad
     requires { ⌜ Matched (now plan) (now row) ⌝ }
     ensures { λ r. ⌜ r ≡ badOf (editVerdicts (formsIn (now (plan .entry))) (now (row .entry))) ⌝ }

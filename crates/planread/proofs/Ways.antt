@@ -1,4 +1,4 @@
--- Reading a record by a plan, at each way through it: the refusals in 01's order, and the row. The run over the fields tells all that the
+-- Reading a record by a plan, at each way through it: the refusals in the order of RULES 6.6, and the row. The run over the fields tells all that the
 -- answer asks of them: where it stopped the first number is CONVERSION, and where it came to the end its values are the row. Assumes nothing.
 use Prim.Native.Nat.{ℕ, suc, _+_, _-_, _*_, _<_, _≤_}
 use mathlib.Core.Path.{_≡_, refl, sym, ap, _∙_}

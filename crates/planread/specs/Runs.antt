@@ -1,5 +1,5 @@
--- Not 01's words: what a run over the fields of a record hands back, by what each field says, and the outcome that follows. The public call is
--- held to 01's own relation instead. Assumes nothing.
+-- Beyond RULES: what a run over the fields of a record hands back, by what each field says, and the outcome that follows. The public call is
+-- held to the relation of the rules instead. Assumes nothing.
 use Prim.Native.Nat.{ℕ, _+_}
 use mathlib.Core.Path.{_≡_}
 use mathlib.Core.Bool.{true}

@@ -1,4 +1,4 @@
-// A record read by a plan into a row: one value a field, or the first refusal in 01's order. The call takes every input and does its
+// A record read by a plan into a row: one value a field, or the first refusal in the order of RULES 6.6. The call takes every input and does its
 // own checking.
 mod run; // run.rt: the fields of a record, one after the other
 

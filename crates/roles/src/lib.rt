@@ -1,4 +1,4 @@
-// What a role is, what a character is worth, and the characters that roles show. Every byte has an answer, so that no call has to ask
+// What a role is, what a character is worth, how many positions stand before V, and the characters that roles show. Every byte has an answer, so that no call has to ask
 // first whether it is a role.
 pub mod marks; // marks.rt: the characters
 
@@ -34,7 +34,7 @@ pub fn digits_at(role: u8) -> usize
     0
 }
 
-// A suppressible digit or the first drifting symbol.
+// RULES 3.9: the stretch may begin here.
 pub fn does_open(role: u8) -> bool
     ensures { λ r. ⌜ r ≡ opens role ⌝ }
 {

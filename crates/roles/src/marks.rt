@@ -14,7 +14,7 @@ fn chosen(test: bool, yes: u8, no: u8) -> u8
     no
 }
 
-// The character of a role that is no digit, and of a drifting symbol by the kind, which has the number of the symbol's static
+// RULES 3.11 and 3.12: the character of a role that is no digit, and of a drifting symbol by the kind, which has the number of the symbol's static
 // role. CR and DB are written and compared as the letters of these two strings. A byte that is no role shows 0.
 pub fn mark_of(role: u8, negative: bool) -> u8
     ensures { λ r. ⌜ r ≡ mark role negative ⌝ }
@@ -39,7 +39,7 @@ pub fn mark_of(role: u8, negative: bool) -> u8
     }
 }
 
-// What a suppressed position shows: * in a picture with *, else a blank.
+// RULES 3.6: what a hidden position shows.
 pub fn fill_of(kind: u8) -> u8
     ensures { λ r. ⌜ r ≡ fill kind ⌝ }
 {
@@ -49,7 +49,7 @@ pub fn fill_of(kind: u8) -> u8
     b' '
 }
 
-// The credit or the debit mark stands at i and ends the text; from its end on there is none.
+// RULES 1.3: the credit or the debit mark stands at i and ends the text. At the text's end and behind it stands none.
 pub fn mark_at(text: &[u8], i: usize) -> bool
     ensures { λ r. ⌜ r ≡ isMark (drop i (now (text .entry))) ⌝ }
 {

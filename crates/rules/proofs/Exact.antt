@@ -106,7 +106,7 @@ module _ (φ : Form) where
         field = own-edited m;
       }
 
--- 01's uniqueness: of an accepted picture, two values at its own scale with one field are equal
+-- RULES 4.2, the uniqueness: of an accepted picture, two values at its own scale with one field are equal
 same-value : (m n : ℤ) → isNegative m ≡ isNegative n → natAbs m ≡ natAbs n → m ≡ n
 same-value (pos m) (pos n) s e = ap pos e
 same-value (negsuc m) (negsuc n) s e = ap negsuc (omega arith)

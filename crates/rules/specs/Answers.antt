@@ -1,4 +1,4 @@
--- 01, "Numbers that come back": what each call answers and what the lent memory holds afterwards, over all inputs. Assumes nothing.
+-- RULES 6: what each call answers and what the lent memory holds afterwards, over all inputs. Assumes nothing.
 use Prim.Native.Nat.{ℕ, zero, suc, _+_}
 use mathlib.Core.Path.{_≡_}
 use mathlib.Core.Bool.{cond}
@@ -15,25 +15,23 @@ use Rattle.rules.specs.Edit.{inRange, tooBig, edited}
 use Rattle.rules.specs.Read.{ReadsAs}
 use Rattle.rules.specs.Layout.{countFits, verdicts, forms, recordLength, planOf, HasPlan}
 
--- "Number 0 is success." "A refusal gives its number, field number 0 (but in layouts and plans 1 to 6, 8 and 10 give the 1-based first bad
--- field ..), length 0 and value 0". "Success gives field 0 and, as length, the characters or plan bytes written or the fields read".
+-- RULES 6.2: a refusal has a field and no length and value; success has a length and a value and no field
 abbrev pub answer : ℕ → ℕ → ℕ → ℤ → Answer
 answer zero field length value = record { number = 0; field = 0; length = length; value = value }
 answer (suc n) field length value = record { number = suc n; field = field; length = 0; value = pos 0 }
 
--- A refusal "changes no lent byte or number". On success what is written stands first; "everything in the lent memory beyond those keeps its
--- content".
+-- RULES 6.5: a refusal leaves the lent memory; on success what is written stands first, before what stays
 abbrev pub lentAfter : {A : Type 0} → ℕ → List A → List A → List A
 lentAfter zero written lent = written ++ drop (length written) lent
 lentAfter (suc n) written lent = lent
 
 -- Calls on one picture.
 
--- "n for a picture only checked"
+-- RULES 6.4: the length of a picture that is checked is n
 unfoldable pub checkAnswer : List ℕ → Answer
 checkAnswer t = answer (verdict t) 0 (size (meaning t)) (pos 0)
 
--- "Editing: picture, 6, 8, 7."
+-- RULES 6.6, editing: picture, 6, 8, 7
 unfoldable pub editNumber : List ℕ → ℤ → ℕ → ℕ → ℕ
 editNumber t m q room =
     firstOf (
@@ -57,7 +55,7 @@ abbrev pub said : Option ℤ → ℤ
 said none = pos 0
 said (some m) = m
 
--- "Reading: picture, 9, 10."
+-- RULES 6.6, reading: picture, 9, 10
 unfoldable pub readAnswer : List ℕ → List ℕ → Option ℤ → Answer
 readAnswer t f o = answer (firstOf (verdict t ∷ unless (eqb (length f) (size (meaning t))) LENGTH ∷ unread o ∷ [])) 0 1 (said o)
 
@@ -78,7 +76,7 @@ unfoldable pub answerOver : ℕ → List ℕ → ℕ → ℕ → Answer
 answerOver before fields behind length =
     answer (numberOver before fields behind) (cond (eqb before 0) (badField fields) 0) length (pos 0)
 
--- "Compiling: 11, the first bad picture, 7."
+-- RULES 6.6, compiling: 11, the pictures, 7
 unfoldable pub compileNumber : List ℕ → ℕ → ℕ
 compileNumber l room = numberOver (unless (countFits l) COUNT) (verdicts l) (when (ltb room (length (planOf (forms l)))) ROOM)
 
@@ -107,7 +105,7 @@ RecordReads [] rec (o ∷ os) = ⊥
 RecordReads (φ ∷ φs) rec [] = ⊥
 RecordReads (φ ∷ φs) rec (o ∷ os) = ReadsAs φ (take (size φ) rec) o × RecordReads φs (drop (size φ) rec) os
 
--- "Plan reading: 12, 9, 7, then the first field with 10." Behind PLAN:
+-- RULES 6.6, reading a record: behind PLAN 9, 7, and then the fields
 unfoldable pub readBefore : List Form → List ℕ → ℕ → ℕ
 readBefore φs rec room = firstOf (unless (eqb (length rec) (recordLength φs)) LENGTH ∷ when (ltb room (rowLength φs)) ROOM ∷ [])
 
@@ -124,8 +122,8 @@ pub record RecordIs (φs : List Form) (rec : List ℕ) (row : List ℤ) (r : Ans
   pub gives : r ≡ recordAnswer φs rec (length row) says
   pub leaves : after ≡ rowAfter φs rec row says
 
--- Bytes are refused as a plan exactly when no accepted layout has them; else all is as that layout's own text has it. `Right φs` says what is
--- right for its pictures.
+-- RULES 5.4 and 5.5: bytes that no accepted layout has are refused; else all is as that layout's own text has it. `Right φs` says what is right
+-- for its pictures.
 pub data ByPlan (b : List ℕ) (Refused : Type 0) (Right : List Form → Type 0) : Type 0 where
   no-plan : ((l : List ℕ) → HasPlan l b → ⊥) → Refused → ByPlan b Refused Right
   as-layout : (l : List ℕ) → HasPlan l b → Right (forms l) → ByPlan b Refused Right
@@ -133,6 +131,7 @@ pub data ByPlan (b : List ℕ) (Refused : Type 0) (Right : List Form → Type 0)
 abbrev pub notPlan : {A : Type 0} → List A → Answer → List A → Type 0
 notPlan lent r after = (r ≡ answer PLAN 0 0 (pos 0)) × (after ≡ lent)
 
+-- RULES 6.6: the answer and the row are right for reading a record by a plan
 abbrev pub PlanReadIs : List ℕ → List ℕ → List ℤ → Answer → List ℤ → Type 0
 PlanReadIs b rec row r after = ByPlan b (notPlan row r after) (λ φs. RecordIs φs rec row r after)
 
@@ -156,7 +155,7 @@ recordOf [] row = []
 recordOf (φ ∷ φs) [] = []
 recordOf (φ ∷ φs) (m ∷ ms) = fieldOf φ m ++ recordOf φs ms
 
--- "Plan editing: 12, 9, the first field with 6 or 8 (6 before 8), then 7." Behind PLAN:
+-- RULES 6.6, editing a row: behind PLAN 9, the fields, 7
 unfoldable pub rowNumber : List Form → List ℤ → ℕ → ℕ
 rowNumber φs row room =
     numberOver (unless (eqb (length row) (rowLength φs)) LENGTH) (editVerdicts φs row) (when (ltb room (recordLength φs)) ROOM)
@@ -170,5 +169,6 @@ pub record RowIs (φs : List Form) (row : List ℤ) (out : List ℕ) (r : Answer
   pub gives : r ≡ rowAnswer φs row (length out)
   pub leaves : after ≡ lentAfter (rowNumber φs row (length out)) (recordOf φs row) out
 
+-- RULES 6.6: the answer and the record are right for editing a row by a plan
 abbrev pub PlanEditIs : List ℕ → List ℤ → List ℕ → Answer → List ℕ → Type 0
 PlanEditIs b row out r after = ByPlan b (notPlan out r after) (λ φs. RowIs φs row out r after)

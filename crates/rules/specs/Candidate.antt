@@ -1,4 +1,4 @@
--- Not 01's words: the one value that a field can have, found from the digits that it shows, and what its fields then say. proofs/Exact.antt
+-- Beyond RULES: the one value that a field can have, found from the digits that it shows, and what its fields then say. proofs/Exact.antt
 -- proves that this is what ReadsAs asks. Assumes nothing.
 use mathlib.Core.Path.{_≡_}
 use mathlib.Core.Bool.{Bool, true, false, cond, _&&_}

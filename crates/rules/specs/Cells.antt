@@ -1,4 +1,4 @@
--- Not 01's words: the character at one position of a field in one formula, which is what a loop writes or compares there. A blank field is all
+-- Beyond RULES: the character at one position of a field in one formula, which is what a loop writes or compares there. A blank field is all
 -- stretch, and nothing drifts in it. proofs/Fields.antt proves that these characters are the field. Assumes nothing.
 use mathlib.Core.Bool.{Bool, not, _&&_, _||_}
 use mathlib.Core.List.{List}

@@ -1,4 +1,4 @@
--- 01, the collector's calls: answers as one number, and rows as runs of bytes. Assumes nothing.
+-- RULES 7, the C calls: answers as one number, and rows as runs of bytes. Assumes nothing.
 use mathlib.Core.Path.{_≡_}
 use mathlib.Core.Bool.{cond}
 use mathlib.Core.List.{List, [], _∷_, _++_}
@@ -14,11 +14,11 @@ use Rattle.rules.specs.Shape.{verdict}
 use Rattle.rules.specs.Read.{ReadsAs}
 use Rattle.rules.specs.Answers.{answer, lentAfter, unread, said}
 
--- "Each answers one 64-bit number: the number, plus 256 times the field, plus 65,536 times the length."
+-- RULES 7.2: number, field and length as one number
 unfoldable pub packed : Answer → ℕ
 packed r = r .number + 256 * r .field + 65536 * r .length
 
--- "eight-byte little-endian numbers in two's complement"
+-- RULES 7.3: a number's 64 bits, and back; then the bits as bytes, the lowest first
 unfoldable pub bitsOf : ℤ → ℕ
 bitsOf (pos n) = n
 bitsOf (negsuc n) = 2 ^ 64 - suc n
@@ -50,7 +50,7 @@ unfoldable pub rowIn : ℕ → List ℕ → List ℤ
 rowIn zero run = []
 rowIn (suc n) run = intIn run ∷ rowIn n (drop 8 run)
 
--- Reading one picture's field into a run: picture, LENGTH, ROOM, CONVERSION.
+-- RULES 7.5, reading one field into a run: picture, 9, 7, 10
 unfoldable pub readRunNumber : List ℕ → List ℕ → ℕ → Option ℤ → ℕ
 readRunNumber t f room o =
     firstOf (verdict t ∷ unless (eqb (length f) (size (meaning t))) LENGTH ∷ when (ltb room 8) ROOM ∷ unread o ∷ [])

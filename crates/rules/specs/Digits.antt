@@ -3,7 +3,7 @@ use mathlib.Core.List.{List, [], _∷_}
 use Prim.Native.Nat.{ℕ, zero, suc, _+_, _*_, _/_, _%_, _^_, _<_}
 use lib.ListN.{length, getD}
 
--- the last d digits of t, "with leading zeros"
+-- the last d digits of t, zeros in front
 unfoldable pub digitsOf : ℕ → ℕ → List ℕ
 digitsOf zero t = []
 digitsOf (suc d) t = t / 10 ^ d % 10 ∷ digitsOf d t

@@ -1,4 +1,4 @@
--- What a picture means: the role of each position, where V stands, and the kind of suppression. Assumes nothing.
+-- RULES 2.1, 2.2 and 2.4: what a picture means: the role of each position, where V stands, and the kind. Assumes nothing.
 use Prim.Native.Nat.{ℕ, zero, suc, _+_}
 use Prim.Native.Char.{code}
 use mathlib.Core.Bool.{Bool, cond, _&&_, _||_}
@@ -20,7 +20,7 @@ pub record Form : Type 0 where
 abbrev pub formed : List ℕ → ℕ → ℕ → Form
 formed roles vee kind = record { roles = roles; vee = vee; kind = kind }
 
--- "Each symbol but V is one character position. So the picture's length n is the number of symbols other than V."
+-- RULES 2.1: n
 abbrev pub size : Form → ℕ
 size φ = length (φ .roles)
 
@@ -44,7 +44,7 @@ numbers (b ∷ s) =
     cond (isMark (b ∷ s)) (cond (eqb b (code "C")) (11 ∷ 12 ∷ []) (13 ∷ 14 ∷ []))
     (cond (eqb b theV) rest here)
 
--- a symbol of kind k makes positions suppressible: Z and * wherever they stand; "S, + or - or $ that occurs twice or more drifts."
+-- RULES 2.2: a symbol of kind k makes positions suppressible: Z and * wherever they stand; S, +, - and $ where they stand twice, and so drift
 unfoldable pub suppresses : ℕ → List ℕ → Bool
 suppresses k ns = leb (cond (leb k 2) 1 2) (times k ns)
 
@@ -66,6 +66,7 @@ unfoldable pub rolesFrom : ℕ → Bool → List ℕ → List ℕ
 rolesFrom k met [] = []
 rolesFrom k met (c ∷ cs) = cond (ofKind k c) (cond met 1 2) c ∷ rolesFrom k (met || ofKind k c) cs
 
+-- RULES 2.4: the form of these symbols
 unfoldable pub formOf : List ℕ → Form
 formOf s = record {
   roles = rolesFrom (kindOf (numbers s)) (leb (kindOf (numbers s)) 2) (numbers s);

@@ -1,4 +1,4 @@
--- Not 01's words: which forms accepted pictures have, as one test that needs no text, for a plan's fields. proofs/Forms.antt proves that a
+-- Beyond RULES: which forms accepted pictures have, as one test that needs no text, for a plan's fields. proofs/Forms.antt proves that a
 -- form passes it exactly when some accepted text means that form. Assumes nothing.
 use Prim.Native.Nat.{ℕ, zero, suc, _+_, _-_}
 use mathlib.Core.Bool.{Bool, true, cond, not, _&&_, _||_}
@@ -14,8 +14,7 @@ use Rattle.rules.specs.Shape.{formShape, digitsFit}
 unfoldable pub plainNumber : ℕ → Bool
 plainNumber c = leb c 10
 
--- how many of the kinds 1 to k suppress: "At most one kind drifts" and "Z and * don't appear together, and neither appears with a drifting
--- symbol" say that at most one of all does
+-- how many of the kinds 1 to k suppress: RULES 2.6 and 2.7 say together that one of all does at most
 unfoldable pub suppressing : ℕ → List ℕ → ℕ
 suppressing zero ns = 0
 suppressing (suc k) ns = one (suppresses (suc k) ns) + suppressing k ns

@@ -1,4 +1,4 @@
--- 01, "Layouts and plans": a layout's pictures, and the bytes of its plan. Assumes nothing.
+-- RULES 5, layouts and plans: a layout's pictures, and the bytes of its plan. Assumes nothing.
 use Prim.Native.Nat.{ℕ, _+_, _/_, _%_}
 use Prim.Native.Char.{code}
 use mathlib.Core.Path.{_≡_}
@@ -10,7 +10,7 @@ use Rattle.rules.specs.Numbers.{COUNT, unless, firstOf}
 use Rattle.rules.specs.Form.{Form, size, meaning}
 use Rattle.rules.specs.Shape.{verdict}
 
--- "A layout text is 1 to 32 pictures, each ended by `;`, at most 4,128 bytes."
+-- RULES 5.1: so many pictures and bytes at most
 abbrev pub mostPictures : ℕ
 mostPictures = 32
 
@@ -33,7 +33,7 @@ unfoldable pub closes : Bool → List ℕ → Bool
 closes now [] = now
 closes now (b ∷ s) = closes (eqb b (code ";")) s
 
--- COUNT is given where this fails: "layout empty, over 4,128 bytes, not ended by `;`, or over 32 pictures"
+-- RULES 5.1: COUNT is given where this fails. A layout that is empty isn't ended by `;`.
 unfoldable pub countFits : List ℕ → Bool
 countFits l = closes false l && (leb (length l) mostLayout && leb (length (pictures l)) mostPictures)
 
@@ -45,31 +45,30 @@ verdicts l = map verdict (pictures l)
 unfoldable pub accepted : List ℕ → Bool
 accepted l = eqb (firstOf (unless (countFits l) COUNT ∷ firstOf (verdicts l) ∷ [])) 0
 
--- the forms of its pictures, in their order
+-- RULES 5.2: the forms of its pictures, in their order
 unfoldable pub forms : List ℕ → List Form
 forms l = map meaning (pictures l)
 
--- "Its record length is the sum of the n."
+-- RULES 5.2: all positions of a record
 unfoldable pub recordLength : List Form → ℕ
 recordLength [] = 0
 recordLength (φ ∷ φs) = size φ + recordLength φs
 
--- "Fields. A count byte, 1 to 32. Per field three bytes: n; the number of positions before V (n if there is no V); the kind"
+-- RULES 5.3: three bytes a field
 unfoldable pub headers : List Form → List ℕ
 headers [] = []
 headers (φ ∷ φs) = size φ ∷ φ .vee ∷ φ .kind ∷ headers φs
 
--- "Then one byte a position"
+-- and one byte a position
 unfoldable pub positions : List Form → List ℕ
 positions [] = []
 positions (φ ∷ φs) = φ .roles ++ positions φs
 
--- "A plan has two sections in this order, each after its count." "Positions. A count of two bytes, high byte first, equal to the record
--- length."
+-- RULES 5.3: both sections, each behind its count
 unfoldable pub planOf : List Form → List ℕ
 planOf φs = length φs ∷ headers φs ++ (recordLength φs / 256 ∷ recordLength φs % 256 ∷ positions φs)
 
--- an accepted layout has these bytes as its plan
+-- RULES 5.4: an accepted layout has these bytes as its plan
 pub record HasPlan (l b : List ℕ) : Type 0 where
   pub layout : accepted l ≡ true
   pub plan : planOf (forms l) ≡ b

@@ -1,14 +1,14 @@
 pub mod Words
 pub mod Search
-pub mod Numbers
+pub mod Digits
 pub mod Text
 pub mod Roles
 pub mod Form
 pub mod Shape
-pub mod Digits
 pub mod Edit
 pub mod Read
 pub mod Layout
+pub mod Numbers
 pub mod Answers
 pub mod Collector
 pub mod Lister

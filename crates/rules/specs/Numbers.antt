@@ -1,57 +1,57 @@
--- 01, "Numbers that come back": their names, and how the first of several refusals is found. Assumes nothing.
+-- RULES 6.1: the numbers that come back by their names, and how the first of several refusals is found. Assumes nothing.
 use Prim.Native.Nat.{ℕ, zero, suc}
 use mathlib.Core.Bool.{Bool, cond}
 use mathlib.Core.List.{List, [], _∷_}
 
--- picture of 0 or over 128 bytes
+-- a picture text is empty or has over 128 bytes
 abbrev pub TEXT : ℕ
 TEXT = 1
 
--- a byte or factor not allowed
+-- a byte or a factor is none
 abbrev pub SYMBOL : ℕ
 SYMBOL = 2
 
--- over 64 symbols
+-- there are over 64 symbols
 abbrev pub LONG : ℕ
 LONG = 3
 
--- a rule of shape is broken
+-- the symbols don't go together
 abbrev pub SHAPE : ℕ
 SHAPE = 4
 
--- no digit, or over 15
+-- there are no digits or over 15
 abbrev pub DIGITS : ℕ
 DIGITS = 5
 
--- M or q outside its range
+-- M or q is out of its range
 abbrev pub VALUE : ℕ
 VALUE = 6
 
--- the lent output is shorter than needed
+-- less memory is lent than the outcome needs
 abbrev pub ROOM : ℕ
 ROOM = 7
 
--- the aligned value doesn't fit
+-- the value doesn't fit the picture
 abbrev pub SIZE : ℕ
 SIZE = 8
 
--- field or record of another length; row for editing of another length than the field count
+-- a field or record has another length, or a row to be edited another number of places
 abbrev pub LENGTH : ℕ
 LENGTH = 9
 
--- no value edits to the field
+-- the field says no value
 abbrev pub CONVERSION : ℕ
 CONVERSION = 10
 
--- layout empty, over 4,128 bytes, not ended by `;`, or over 32 pictures
+-- a layout is empty, too long, without its last `;`, or of over 32 pictures
 abbrev pub COUNT : ℕ
 COUNT = 11
 
--- not the plan of any accepted layout
+-- the bytes are no accepted layout's plan
 abbrev pub PLAN : ℕ
 PLAN = 12
 
--- the lister's input is over 65,536 bytes
+-- more than 65,536 bytes are to be listed
 abbrev pub INPUT : ℕ
 INPUT = 13
 
@@ -62,13 +62,13 @@ when b n = cond b n 0
 abbrev pub unless : Bool → ℕ → ℕ
 unless b n = cond b 0 n
 
--- "Order": the first refusal of several, 0 where there is none
+-- RULES 6.6: of several refusals the first counts; 0 where there is none
 unfoldable pub firstOf : List ℕ → ℕ
 firstOf [] = 0
 firstOf (zero ∷ ns) = firstOf ns
 firstOf (suc n ∷ ns) = suc n
 
--- the 1-based first bad field, by the number that each field gets; 0 where none is bad
+-- RULES 6.3: the first bad field, from 1, by the number that each field gets; 0 where none is bad
 abbrev pub later : ℕ → ℕ
 later zero = 0
 later (suc k) = suc (suc k)

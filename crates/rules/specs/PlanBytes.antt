@@ -1,4 +1,4 @@
--- Not 01's words: the forms that bytes hold, read off with no check, and the bytes that are a plan as one test. proofs/Plans.antt proves that
+-- Beyond RULES: the forms that bytes hold, read off with no check, and the bytes that are a plan as one test. proofs/Plans.antt proves that
 -- bytes pass it exactly when some accepted layout has them as its plan. Assumes nothing.
 use Prim.Native.Nat.{ℕ, zero, suc, _+_, _*_}
 use mathlib.Core.Bool.{Bool, true, _&&_}

@@ -1,4 +1,4 @@
--- 01, "From field to value". Assumes nothing.
+-- RULES 4, from field to value. Assumes nothing.
 use mathlib.Core.Path.{_≡_}
 use mathlib.Core.Bool.{true, false}
 use mathlib.Core.List.{List}
@@ -15,7 +15,7 @@ pub record Edits (φ : Form) (m : ℤ) (q : ℕ) (f : List ℕ) : Type 0 where
   pub size : tooBig φ m q ≡ false
   pub field : edited φ m q ≡ f
 
--- "It is accepted exactly when some M at scale f edits to it; that M is the answer. Else CONVERSION."
+-- RULES 4.2: the field says the M that is edited to it at the scale f, or nothing, where none is
 abbrev pub ReadsAs : Form → List ℕ → Option ℤ → Type 0
 ReadsAs φ f (some m) = Edits φ m (places φ) f
 ReadsAs φ f none = (m : ℤ) → Edits φ m (places φ) f → ⊥

@@ -1,8 +1,7 @@
--- What a position of a picture is: its role, the byte that a plan stores for it, and 01's words for roles. Assumes nothing.
---   0 nine, 1 suppressible digit, 2 first drifting symbol, 3 to 6 static S + - $, 7 comma, 8 period, 9 slash, 10 B,
---   11 and 12 C and R, 13 and 14 D and B of the debit mark.
+-- RULES 2.3 and 2.4: what a position of a picture is: its role, the byte that a plan stores for it, and the words for roles. Assumes nothing.
+--   role   0 9    1 Z * and what drifts behind its first    2 that first    3 S   4 +   5 -   6 $    7 ,   8 .   9 /   10 B    11 12 CR    13 14 DB
 -- And what a picture has of suppression: its kind.
---   0 nothing suppressible, 1 Z, 2 *, 3 to 6 drifting S + - $.
+--   kind   0 none    1 Z    2 *    3 S   4 +   5 -   6 $, drifting
 use Prim.Native.Nat.{ℕ}
 use mathlib.Core.Bool.{Bool, _&&_, _||_}
 use lib.Dec.{leb, eqb}
@@ -11,7 +10,7 @@ use lib.Dec.{leb, eqb}
 abbrev pub roleLimit : ℕ
 roleLimit = 15
 
--- "Digits are 9, Z, * and the drifting ones after the first. Z, * and drifting digits are suppressible."
+-- RULES 2.3: a digit is a nine or suppressible
 unfoldable pub isNine : ℕ → Bool
 isNine r = eqb r 0
 
@@ -21,19 +20,19 @@ isSuppressible r = eqb r 1
 unfoldable pub isDigit : ℕ → Bool
 isDigit r = isNine r || isSuppressible r
 
--- "Its first occurrence is not a digit; the others are."
+-- the first drifting symbol, which is no digit
 unfoldable pub isFirstDrifting : ℕ → Bool
 isFirstDrifting r = eqb r 2
 
--- where suppression may begin: "the first suppressible digit or the first drifting symbol"
+-- RULES 3.9: where the stretch may begin
 unfoldable pub opens : ℕ → Bool
 opens r = isSuppressible r || isFirstDrifting r
 
--- "One that occurs once is static."
+-- RULES 2.2: S, +, - or $ that stands once
 unfoldable pub isStatic : ℕ → Bool
 isStatic r = leb 3 r && leb r 6
 
--- a sign: S, +, -, and CR and DB by their first letters
+-- RULES 2.10: a sign: S, +, -, and CR and DB by their first letters
 unfoldable pub isSign : ℕ → Bool
 isSign r = leb 3 r && leb r 5 || (eqb r 11 || eqb r 13)
 

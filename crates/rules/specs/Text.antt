@@ -1,4 +1,4 @@
--- 01, "From picture text to symbols": the bytes of a text and the symbols that they stand for. Assumes nothing.
+-- RULES 1, from text to symbols: the bytes of a picture text and the symbols that they stand for. Assumes nothing.
 use Prim.Native.Nat.{ℕ, _+_, _-_, _*_}
 use Prim.Native.Char.{code}
 use mathlib.Core.Bool.{Bool, true, false, cond, _&&_, _||_}
@@ -14,26 +14,25 @@ use Rattle.rules.specs.Words.{text, has, same}
 abbrev pub theV : ℕ
 theV = code "V"
 
--- "A picture text has 1 to 128 bytes."
+-- RULES 1.1: from 1 byte to 128
 abbrev pub mostText : ℕ
 mostText = 128
 
 unfoldable pub textFits : List ℕ → Bool
 textFits t = leb 1 (length t) && leb (length t) mostText
 
--- "Its symbols are `9 Z * V , . / B S + - $`"
+-- RULES 1.2: the symbols of one byte
 abbrev pub symbols : List ℕ
 symbols = text "9Z*V,./BS+-$"
 
 abbrev pub isSymbol : ℕ → Bool
 isSymbol b = has b symbols
 
--- "and `CR` or `DB`, allowed only as its last two bytes": these bytes are a mark and nothing stands behind it
+-- RULES 1.3: these bytes are a mark, and nothing stands behind it
 abbrev pub isMark : List ℕ → Bool
 isMark t = same t (text "CR") || same t (text "DB")
 
--- "A factor `(n)` is one or two decimal digits worth 1 to 64 and repeats the symbol that follows it at once, which may not be V, C, R
--- or D; a factor with no symbol there isn't allowed."
+-- RULES 1.4: what a factor may stand before, and how many copies it may ask for
 abbrev pub repeatable : List ℕ
 repeatable = text "9Z*,./BS+-$"
 
@@ -80,7 +79,7 @@ copies (TwoDigits n) b = 0
 copies (Closed n) b = cond (allows n b) n 0
 copies Spoilt b = 0
 
--- a text may end where no factor waits for its symbol
+-- a text may end only where no factor waits for its symbol
 abbrev pub ended : Mode → Option (List ℕ)
 ended Plain = some []
 ended Opened = none
@@ -93,7 +92,7 @@ abbrev pub onto : List ℕ → Option (List ℕ) → Option (List ℕ)
 onto xs none = none
 onto xs (some ys) = some (xs ++ ys)
 
--- The mark is looked for first, so that "a final `DB` is always the debit mark".
+-- The end is looked at first (RULES 1.3): a text that ends in the letters DB ends in the mark.
 unfoldable pub expandFrom : Mode → List ℕ → Option (List ℕ)
 expandFrom m [] = ended m
 expandFrom m (b ∷ s) =
@@ -116,15 +115,15 @@ abbrev pub orNone : Option (List ℕ) → List ℕ
 orNone none = []
 orNone (some s) = s
 
--- "Expanded": CR and DB stay the bytes C, R and D, B
+-- RULES 1.5, the symbols written out; a mark stays its two letters
 abbrev pub symbolsOf : List ℕ → List ℕ
 symbolsOf t = orNone (expand t)
 
--- "Expanded, a picture has at most 64 symbols; V counts one, CR and DB two each."
+-- RULES 1.5: no more symbols than these, V one of them and a mark two
 abbrev pub mostSymbols : ℕ
 mostSymbols = 64
 
--- "The expanded picture is kept as its symbols with their count, in a fixed room of 64. Unused places are 0"
+-- RULES 1.6: the symbols in their room, 0 behind them
 unfoldable pub roomOf : List ℕ → Picture
 roomOf s = record { symbols = s ++ replicate (mostSymbols - length s) 0; count = length s }
 

@@ -1,4 +1,4 @@
--- Not 01's words: what the pass over a form's roles finds, by the names of the rules. Assumes nothing.
+-- Beyond RULES: what the pass over a form's roles finds, by the names of the rules. Assumes nothing.
 use mathlib.Core.Bool.{Bool, false, cond, _&&_}
 use lib.Dec.{leb}
 use Rattle.rules.specs.Text.{mostSymbols}

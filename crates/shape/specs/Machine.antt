@@ -1,4 +1,4 @@
--- Not 01's words: the rules of shape as the code runs them: a machine, whose phase holds what the roles to come ask of those before, and a sum of
+-- Beyond RULES: the rules of shape as the code runs them: a machine, whose phase holds what the roles to come ask of those before, and a sum of
 -- weights, which holds what the rules count. The entries of both tables are written down in src/tables.rt alone; here is the rule that they follow.
 -- proofs/Found.antt proves that by these tables the code finds what the rules say. Assumes nothing.
 use Prim.Native.Nat.{ℕ, suc, _+_, _*_, _/_, _%_}

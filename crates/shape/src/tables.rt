@@ -178,7 +178,7 @@ const NEXT: [u8; 272] = [
     0,
     0,
     // 160: a static symbol behind a digit
-    0,
+    0, // no digit follows any more
     0,
     0,
     160,
@@ -195,7 +195,7 @@ const NEXT: [u8; 272] = [
     0,
     0,
     // no row
-    0,
+    0, // no phase leads here
     0,
     0,
     0,

@@ -1,8 +1,7 @@
--- What the code computes of a text: the symbols in their room, or the number of the refusal beside an empty room; and, not 01's words, the walk
+-- What the code computes of a text: the symbols in their room, or the number of the refusal beside an empty room; and, beyond RULES, the walk
 -- over the bytes that finds them. proofs/Walk.antt proves that the walk finds what `expand` says. Assumes nothing.
-use Prim.Native.Nat.{ℕ, zero, suc, _+_}
-use mathlib.Core.Path.{_≡_}
-use mathlib.Core.Bool.{Bool, cond, _&&_}
+use Prim.Native.Nat.{ℕ, _+_}
+use mathlib.Core.Bool.{cond, _&&_}
 use mathlib.Core.List.{List, [], _∷_, _++_}
 use lib.Dec.{leb, eqb}
 use lib.ListN.{length, replicate}

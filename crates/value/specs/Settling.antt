@@ -1,8 +1,8 @@
--- What is settled of a value before its field is made: 01's VALUE and SIZE in their order, the sign and T. A form with more digits than a
+-- What is settled of a value before its field is made: VALUE and SIZE in their order (RULES 6.6), the sign and T. A form with more digits than a
 -- picture may have takes no value. Assumes nothing.
 use Prim.Native.Nat.{ℕ}
-use mathlib.Core.Bool.{Bool, false, cond, _||_}
-use mathlib.Core.List.{List, [], _∷_}
+use mathlib.Core.Bool.{false, cond, _||_}
+use mathlib.Core.List.{[], _∷_}
 use lib.Dec.{ltb, eqb}
 use lib.IntN.{ℤ}
 use Rattle.rules.specs.Numbers.{VALUE, SIZE, when, unless, firstOf}

@@ -5,7 +5,7 @@ use field::measure;
 use rules::Picture;
 ghost use mathlib.Core.Path.{_≡_};
 ghost use mathlib.Core.Bool.{false};
-ghost use Prim.Native.Nat.{_<_, _≤_};
+ghost use Prim.Native.Nat.{_<_};
 ghost use Rattle.rules.specs.Form.{formed};
 ghost use Rattle.value.specs.Settling.{settledOf};
 

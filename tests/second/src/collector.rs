@@ -1,5 +1,5 @@
-//! The calls as the C collector sees them: byte runs in, one 64-bit number out, rows as eight-byte little-endian numbers in two's
-//! complement. Reading a single field is offered in the same form, its value going into a row of one place.
+//! The calls as a C program sees them: byte runs in, one 64-bit number out, and in a row eight bytes a number, two's complement with
+//! the lowest byte first. Reading a single field is offered in the same form, its value going into a row of one place.
 
 use crate::layouts_and_plans;
 use crate::numbers_that_come_back::{Answer, Refusal};

@@ -1,4 +1,4 @@
-//! The worked examples of source document 000, taken from the vectors file as they stand there; nothing of them is computed.
+//! The worked examples of IBM's OS PL/I Language Reference, taken from the vectors file as they stand there; nothing of them is computed.
 
 const VECTORS: &str = include_str!("../../vectors/manual-000.tsv");
 

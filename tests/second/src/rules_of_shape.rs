@@ -67,7 +67,7 @@ impl Picture {
         self.digits.iter().all(|&at| self.suppressible(at))
     }
 
-    /// The place of the first suppressible digit or the first drifting symbol.
+    /// The place where hiding can begin: a suppressible digit or the first symbol that drifts.
     pub fn suppression_from(&self) -> Option<usize> {
         let may = |&s: &Symbol| s == Symbol::Z || s == Symbol::Star || self.drifting == Some(s);
         self.symbols.iter().position(may)
