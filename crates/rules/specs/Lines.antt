@@ -353,9 +353,9 @@ layouts =
     spoils (repeated 33 "9;") 11 0 ∷
     spoils (repeated 32 ";") 1 1 ∷
     spoils (repeated 33 ";") 11 0 ∷
-    -- 4,128 bytes, and 4,129
-    compiles (repeated 32 (joined longest ";")) (32 ∷ series 32 (28 ∷ 28 ∷ 0 ∷ []) ++ (3 ∷ 128 ∷ series 32 (replicate 25 10 ++ replicate 3 0))) ∷
-    spoils (joined (repeated 31 (joined longest ";")) (joined longest "9;")) 11 0 ∷ []
+    -- 4,128 bytes are no COUNT: the first picture's SYMBOL comes back; and 4,129
+    spoils (repeated 32 (joined (repeated 128 "Q") ";")) 2 1 ∷
+    spoils (joined (repeated 31 (joined (repeated 128 "Q") ";")) (joined (repeated 129 "Q") ";")) 11 0 ∷ []
 
 -- RULES 6.5: what is written stands first in the lent memory; the rest of it stays, and a refusal leaves all of it.
 abbrev pub memory : List Line
