@@ -1,7 +1,9 @@
-//! The judge: holds answer lines of a library against this program's own answers and words the differences for a reader.
+//! The judge: holds answer lines of a library against this program's own answers, or against stated ones, and shows the differences
+//! to a reader: each case and answer in words, and below it the line itself.
 
 use crate::cases::{Case, Reply};
 use crate::collector;
+use crate::layouts_and_plans::{is_plan, rebuilt_layout};
 
 /// At most this many differences are worded.
 const WORDED: usize = 20;
@@ -16,18 +18,37 @@ pub struct Verdict {
     pub report: String,
 }
 
-/// Compares the answer lines with the case lines; Err names a case line that has not the form.
+/// Compares the answer lines with this program's own answers; Err names a case line that has not the form.
 pub fn judge(cases: &str, answers: &str) -> Result<Verdict, String> {
+    compare(cases, answers, |_, case| Ok(case.answer()))
+}
+
+/// Compares the answer lines with stated ones, one a case; Err names a line that has not the form.
+pub fn judge_by(cases: &str, answers: &str, stated: &str) -> Result<Verdict, String> {
+    let (asked, stated) = (cases.lines().count(), stated.lines().collect::<Vec<_>>());
+    if asked != stated.len() {
+        return Err(format!("{asked} cases but {} stated answers", stated.len()));
+    }
+    let no_answer = |k: usize| format!("line {k} of the stated answers is no answer: {}", stated[k - 1]);
+    compare(cases, answers, |k, _| Reply::parse(stated[k - 1]).ok_or_else(|| no_answer(k)))
+}
+
+/// Compares the answer lines with what is expected of each case, counted from 1.
+fn compare(
+    cases: &str,
+    answers: &str,
+    expected: impl Fn(usize, &Case) -> Result<Reply, String>,
+) -> Result<Verdict, String> {
     let (asked, given): (Vec<&str>, Vec<&str>) = (cases.lines().collect(), answers.lines().collect());
     let mut verdict = Verdict { compared: 0, differ: 0, complete: asked.len() == given.len(), report: String::new() };
     for (k, (line, got)) in (1..).zip(asked.iter().zip(&given)) {
         let case = Case::parse(line).ok_or(format!("line {k} of the cases is no case: {line}"))?;
-        let own = case.answer();
+        let expected = expected(k, &case)?;
         verdict.compared += 1;
-        if own.line() != *got {
+        if expected.line() != *got {
             verdict.differ += 1;
             if verdict.differ <= WORDED {
-                verdict.report += &difference(k, &case, &own, got);
+                verdict.report += &difference(k, &case, &expected, got);
             }
         }
     }
@@ -38,12 +59,21 @@ pub fn judge(cases: &str, answers: &str) -> Result<Verdict, String> {
     Ok(verdict)
 }
 
-fn difference(k: usize, case: &Case, own: &Reply, got: &str) -> String {
+/// Case, expected answer and answer: each in words, and below them the line in hexadecimal.
+fn difference(k: usize, case: &Case, expected: &Reply, got: &str) -> String {
+    let both = |reply: &Reply| format!("{}\n           {}", outcome(case, reply), reply.line());
     let theirs = match Reply::parse(got) {
-        Some(reply) => outcome(case, &reply),
+        Some(reply) => both(&reply),
         None => format!("no answer line: {}", printable(got.as_bytes())),
     };
-    format!("case {k}: {}\n  expected {}\n  got      {theirs}\n", worded(case), outcome(case, own))
+    let case_line = case.line();
+    format!("case {k}: {}\n  {case_line}\n  expected {}\n  got      {theirs}\n", worded(case), both(expected))
+}
+
+/// The line, and below it in words the case that it ends in, if it does: a case alone, or a message with a case behind its last `: `.
+pub fn with_words(line: &str) -> String {
+    let case = line.rsplit(": ").next().and_then(Case::parse);
+    case.map_or(format!("{line}\n"), |case| format!("{line}\n  {}\n", worded(&case)))
 }
 
 /// The case with its texts as printable characters.
@@ -60,11 +90,12 @@ pub fn worded(case: &Case) -> String {
             format!("compile {} into {} bytes {plan:?}", printable(layout), plan.len())
         }
         Case::PlanRead { plan, record, row } => {
-            format!("plan_read {plan:?} record {} into {} bytes {}", printable(record), row.len(), numbers(row))
+            let (by, into) = (plan_shown(plan), row.len());
+            format!("plan_read by {by} record {} into {into} bytes {}", printable(record), numbers(row))
         }
         Case::PlanEdit { plan, row, record } => {
-            let (from, into) = (row.len(), record.len());
-            format!("plan_edit {plan:?} row {} of {from} bytes into {into} bytes {}", numbers(row), printable(record))
+            let (by, from, into) = (plan_shown(plan), row.len(), record.len());
+            format!("plan_edit by {by} row {} of {from} bytes into {into} bytes {}", numbers(row), printable(record))
         }
     }
 }
@@ -78,6 +109,12 @@ fn outcome(case: &Case, reply: &Reply) -> String {
         Case::Read { .. } | Case::PlanRead { .. } => numbers(&reply.memory),
     };
     format!("number {number} field {field} length {length} memory {memory}")
+}
+
+/// A plan as the layout that it is of, other bytes as they are.
+fn plan_shown(plan: &[u8]) -> String {
+    let layout = rebuilt_layout(plan).filter(|_| is_plan(plan));
+    layout.map_or_else(|| format!("{plan:?}"), |layout| format!("the plan of {}", printable(&layout)))
 }
 
 /// A row as its numbers, with the odd bytes behind them.

@@ -13,7 +13,9 @@ usage:
   second cases KIND SEED COUNT     write cases; KIND is check, edit, read, compile, plan_read, plan_edit,
                                    picture (the first three), layout (the other three) or all
   second answer                    answer the cases on stdin
-  second judge CASES ANSWERS       compare the answers in a file with this program's own
+  second judge CASES ANSWERS [STATED]
+                                   compare the answers in a file with this program's own, or with those in a third file
+  second word                      copy stdin; below each line that ends in a case stands the case in words
   second sheet cases|answers       the examples of the rules and of the manual, as cases or as stated answers
 ";
 
@@ -36,7 +38,9 @@ fn main() -> ExitCode {
         ["list"] => list(),
         ["cases", kind, seed, count] => cases(kind, seed, count),
         ["answer"] => answer(),
-        ["judge", cases, answers] => return judged(cases, answers),
+        ["judge", cases, answers] => return judged(cases, answers, None),
+        ["judge", cases, answers, stated] => return judged(cases, answers, Some(stated)),
+        ["word"] => word(),
         ["sheet", "cases"] => sheet(|(case, _)| case.line()),
         ["sheet", "answers"] => sheet(|(_, reply)| reply.line()),
         _ => Err(Failure::Usage),
@@ -95,18 +99,29 @@ fn sheet(line: impl Fn(&sheet_of_examples::Stated) -> String) -> Result<(), Fail
     Ok(out.flush()?)
 }
 
+fn word() -> Result<(), Failure> {
+    let mut out = io::BufWriter::new(io::stdout().lock());
+    for line in io::stdin().lock().split(b'\n') {
+        out.write_all(judge::with_words(&String::from_utf8_lossy(&line?)).as_bytes())?;
+    }
+    Ok(out.flush()?)
+}
+
 /// Exit 0 if all answers agree, 1 if not, 2 if the files can't be compared.
-fn judged(cases: &str, answers: &str) -> ExitCode {
-    let files = [cases, answers].map(|path| std::fs::read_to_string(path).map_err(|error| format!("{path}: {error}")));
-    let verdict = match files {
-        [Ok(cases), Ok(answers)] => judge::judge(&cases, &answers),
-        [Err(message), _] | [_, Err(message)] => Err(message),
-    };
-    match verdict {
+fn judged(cases: &str, answers: &str, stated: Option<&str>) -> ExitCode {
+    match verdict(cases, answers, stated) {
         Ok(verdict) => {
             print!("{}", verdict.report);
             ExitCode::from(u8::from(verdict.differ > 0 || !verdict.complete))
         }
         Err(message) => failed(Failure::Message(message)),
+    }
+}
+
+fn verdict(cases: &str, answers: &str, stated: Option<&str>) -> Result<judge::Verdict, String> {
+    let file = |path: &str| std::fs::read_to_string(path).map_err(|error| format!("{path}: {error}"));
+    match stated {
+        None => judge::judge(&file(cases)?, &file(answers)?),
+        Some(stated) => judge::judge_by(&file(cases)?, &file(answers)?, &file(stated)?),
     }
 }

@@ -60,13 +60,57 @@ fn corrupted_answers_are_found() {
     assert!(report.contains("case 41: ") && report.contains("case 71: ") && report.contains("case 81: "), "{report}");
 }
 
+/// How the judge shows that `ZZ9` prints 5 as `__5` and an answer says `__6`.
+const DIFFERENCE: &str = r#"case 1: edit "ZZ9" value 5@0 into 3 bytes "..."
+  edit 5a5a39 5 0 2e2e2e
+  expected number 0 field 0 length 3 memory "  5"
+           196608 202035
+  got      number 0 field 0 length 3 memory "  6"
+           196608 202036
+1 compared, 1 differ
+"#;
+
 #[test]
 fn differences_are_worded() {
-    let (code, report) = judged("worded", "edit 5a5a39 5 0 232323\n", "196608 202036\n");
-    let expected = "case 1: edit \"ZZ9\" value 5@0 into 3 bytes \"###\"\n  \
-        expected number 0 field 0 length 3 memory \"  5\"\n  \
-        got      number 0 field 0 length 3 memory \"  6\"\n1 compared, 1 differ\n";
-    assert_eq!((code, report.as_str()), (Some(1), expected));
+    let (code, report) = judged("worded", "edit 5a5a39 5 0 2e2e2e\n", "196608 202036\n");
+    assert_eq!((code, report.as_str()), (Some(1), DIFFERENCE));
+    let (_, report) = judged("no_answer", "check 39\n", "no\tanswer\n");
+    assert!(report.contains("  got      no answer line: \"no\\tanswer\"\n"), "{report}");
+}
+
+/// The exit code and the output of a judgement by the stated lines.
+fn judged_by(name: &str, cases: &str, answers: &str, stated: &str) -> (Option<i32>, String) {
+    let lines = [("cases", cases), ("answers", answers), ("stated", stated)];
+    let [cases, answers, stated] = lines.map(|(what, lines)| file(&format!("{name}.{what}"), lines));
+    let output = run(&["judge", cases.to_str().unwrap(), answers.to_str().unwrap(), stated.to_str().unwrap()], b"");
+    (output.status.code(), String::from_utf8(output.stdout).expect("ASCII"))
+}
+
+#[test]
+fn stated_answers_take_the_place_of_its_own() {
+    let case = "edit 5a5a39 5 0 2e2e2e\n";
+    let agreed = (Some(0), "1 compared, 0 differ\n".to_string());
+    assert_eq!(judged_by("agreed", case, "196608 202036\n", "196608 202036\n"), agreed);
+    let differed = judged_by("differed", case, "196608 202036\n", "196608 202035\n");
+    assert_eq!(differed, (Some(1), DIFFERENCE.to_string()));
+    assert_eq!(judged_by("unanswered", case, "", "196608 202035\n").0, Some(1));
+    assert_eq!(judged_by("unstated", case, "196608 202035\n", "").0, Some(2));
+    assert_eq!(judged_by("unusable", case, "196608 202035\n", "nothing\n").0, Some(2));
+}
+
+#[test]
+fn cases_in_messages_are_worded() {
+    let worded = [
+        ("driver: line 7: the call crashed: check 5a5a39", r#"check "ZZ9""#),
+        ("read 39 00 -", r#"read "9" field "\x00" into 0 bytes [] and []"#),
+        ("plan_read 010101000001 - -", r#"plan_read by [1, 1, 1, 0, 0, 1] record "" into 0 bytes [] and []"#),
+        ("plan_read 01010100000100 37 -", r#"plan_read by the plan of "9;" record "7" into 0 bytes [] and []"#),
+    ];
+    for (line, words) in worded {
+        assert_eq!(output_of(&["word"], format!("{line}\n").as_bytes()), format!("{line}\n  {words}\n"));
+    }
+    assert_eq!(output_of(&["word"], b"no case: chek 39\n\n"), "no case: chek 39\n\n");
+    assert_eq!(output_of(&["word"], b""), "");
 }
 
 #[test]
@@ -103,7 +147,7 @@ fn the_lister_runs() {
 
 #[test]
 fn wrong_use_is_refused() {
-    let wrong: [&[&str]; 9] = [
+    let wrong: [&[&str]; 11] = [
         &[],
         &["lists"],
         &["list", "more"],
@@ -113,6 +157,8 @@ fn wrong_use_is_refused() {
         &["cases", "all", "1", "-1"],
         &["sheet"],
         &["sheet", "all"],
+        &["judge", "one"],
+        &["word", "more"],
     ];
     for arguments in wrong {
         let output = run(arguments, b"");
@@ -121,4 +167,5 @@ fn wrong_use_is_refused() {
     }
     assert_eq!(run(&["answer"], b"chek 39\n").status.code(), Some(2));
     assert_eq!(run(&["judge", "no such file", "nor this"], b"").status.code(), Some(2));
+    assert_eq!(run(&["judge", "no such file", "nor this", "nor that"], b"").status.code(), Some(2));
 }
