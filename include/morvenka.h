@@ -1,10 +1,10 @@
 /*
  * Morvenka for C: the edited picture fields of mainframe files, checked, written and read, one at a time or a record at a time.
  *
- * This header is all that a C program needs to know. The archive is x86-64 code and needs the C library alone:
+ * This header is all that a C program needs to know; C++ takes it too. ./install puts it and the library where pkg-config finds them,
+ * and the library needs the C library alone:
  *
- *     rt staticlib collector
- *     gcc -std=c11 -Iinclude program.c target/staticlib/libcollector.a -o program
+ *     gcc -std=c11 program.c $(pkg-config --cflags --libs morvenka) -o program
  *
  * WORDS
  *   picture  an ASCII text of 1 to 128 bytes, such as ZZ9V.99 or $$,$$9 or (3)9CR. It has no zero byte at its end.
@@ -15,7 +15,8 @@
  *   record   the fields of a layout, one after another with nothing between: at most 2,048 characters.
  *   plan     a layout compiled: plain bytes to be used for any number of records, and to be kept or sent as they are.
  *   row      one number a field, in eight bytes, little-endian, two's complement: the M of the field's value at its own f.
- *            On x86-64 an array of int64_t is such a row: pass its address as a uint8_t * and its size in bytes.
+ *            On a little-endian machine, as x86-64 and Arm under Linux are, an array of int64_t is such a row: pass its address as
+ *            a uint8_t * and its size in bytes.
  *
  * RUNS OF BYTES
  *   Each run is a pointer and then its length in bytes. The const runs are read and never written.
@@ -40,7 +41,8 @@
  *     if (morvenka_number(answer) == MORVENKA_OK)
  *         answer = morvenka_plan_read(plan, morvenka_length(answer), (const uint8_t *)record, sizeof record - 1,
  *                                     (uint8_t *)row, sizeof row);
- *   Then the answer has the number 0 and the length 2, and the row is {1234, -7}: 12.34 and -7.
+ *   Then the answer has the number 0 and the length 2, and the row is {1234, -7}: 12.34 and -7. That field 1 has two places is
+ *   what morvenka_field_scale tells.
  */
 #ifndef MORVENKA_H
 #define MORVENKA_H
@@ -51,6 +53,12 @@
 #ifdef __cplusplus
 extern "C" {
 #endif
+
+/* The version of this header and its library, as text and as numbers; docs/COLLECTOR.md says what changes which number. */
+#define MORVENKA_VERSION "1.0.0"
+#define MORVENKA_VERSION_MAJOR 1
+#define MORVENKA_VERSION_MINOR 0
+#define MORVENKA_VERSION_PATCH 0
 
 /* The numbers that come back. */
 enum morvenka_numbers {
@@ -93,6 +101,28 @@ static inline size_t morvenka_length(uint64_t answer)
     return (size_t)(answer / 65536);
 }
 
+/* The name of a number that comes back: "OK" for 0, "CONVERSION" for 10. "?" for a number that is none of them. */
+static inline const char *morvenka_name(unsigned number)
+{
+    switch (number) {
+    case MORVENKA_OK: return "OK";
+    case MORVENKA_TEXT: return "TEXT";
+    case MORVENKA_SYMBOL: return "SYMBOL";
+    case MORVENKA_LONG: return "LONG";
+    case MORVENKA_SHAPE: return "SHAPE";
+    case MORVENKA_DIGITS: return "DIGITS";
+    case MORVENKA_VALUE: return "VALUE";
+    case MORVENKA_ROOM: return "ROOM";
+    case MORVENKA_SIZE: return "SIZE";
+    case MORVENKA_LENGTH: return "LENGTH";
+    case MORVENKA_CONVERSION: return "CONVERSION";
+    case MORVENKA_COUNT: return "COUNT";
+    case MORVENKA_PLAN: return "PLAN";
+    case MORVENKA_INPUT: return "INPUT";
+    default: return "?";
+    }
+}
+
 /* Layouts and plans */
 
 /*
@@ -120,6 +150,59 @@ uint64_t morvenka_plan_read(const uint8_t *plan, size_t plan_len, const uint8_t 
  */
 uint64_t morvenka_plan_edit(const uint8_t *plan, size_t plan_len, const uint8_t *row, size_t row_len,
                             uint8_t *record, size_t record_len);
+
+/*
+ * What a plan tells of its fields. The five functions below trust the bytes and judge nothing: they are for a plan that compiling has
+ * written, or that a call on plans has not refused with PLAN. A field is counted from 1, as refusals count it.
+ * Of any bytes, none beyond plan_len is read. The answer is 0 where the plan has no such field, and where the run ends before the
+ * record length, or for the scale before the end of the field.
+ *
+ * A plan is the number of fields in one byte; for each field three bytes, which are n, how many of its positions stand before V, and a
+ * kind; the record length in two bytes, the high one first; then one byte for each position of the record, 0 or 1 where it is a digit.
+ */
+
+/* The number of fields. */
+static inline size_t morvenka_plan_fields(const uint8_t *plan, size_t plan_len)
+{
+    size_t fields = plan_len > 0 ? plan[0] : 0;
+    return plan_len >= 3 + 3 * fields ? fields : 0;
+}
+
+/* The record length. */
+static inline size_t morvenka_plan_record(const uint8_t *plan, size_t plan_len)
+{
+    size_t fields = morvenka_plan_fields(plan, plan_len);
+    return fields > 0 ? 256 * (size_t)plan[1 + 3 * fields] + plan[2 + 3 * fields] : 0;
+}
+
+/* The characters of a field: its n. */
+static inline size_t morvenka_field_width(const uint8_t *plan, size_t plan_len, size_t field)
+{
+    return field >= 1 && field <= morvenka_plan_fields(plan, plan_len) ? plan[3 * field - 2] : 0;
+}
+
+/* How many characters of the record stand before a field: 0 for field 1. */
+static inline size_t morvenka_field_offset(const uint8_t *plan, size_t plan_len, size_t field)
+{
+    size_t offset = 0;
+    if (field > morvenka_plan_fields(plan, plan_len))
+        return 0;
+    for (size_t before = 1; before < field; before++)
+        offset += morvenka_field_width(plan, plan_len, before);
+    return offset;
+}
+
+/* The scale of a field: its f, which is how many of the last digits of its number in a row stand behind the decimal point. */
+static inline size_t morvenka_field_scale(const uint8_t *plan, size_t plan_len, size_t field)
+{
+    size_t scale = 0, width = morvenka_field_width(plan, plan_len, field);
+    size_t first = 3 + 3 * morvenka_plan_fields(plan, plan_len) + morvenka_field_offset(plan, plan_len, field);
+    if (width == 0 || plan_len < first + width)
+        return 0;
+    for (size_t position = plan[3 * field - 1]; position < width; position++)
+        scale += plan[first + position] <= 1;
+    return scale;
+}
 
 /* One picture */
 
