@@ -1,6 +1,7 @@
 /*
- * A complete small program over the library, as docs/COLLECTOR.md shows it: it compiles the layout of a weighbridge file, reads a
- * record, prints the values, edits them back into a record, and shows what the blank weight of a missed lot comes to.
+ * A complete small program over the library, as docs/COLLECTOR.md shows it: it compiles the layout of a weighbridge file, reads
+ * records, prints their amounts with the decimal point in its place, edits them back into a record, and shows what the blank weight
+ * of a missed lot comes to.
  */
 #include <stdio.h>
 
@@ -12,7 +13,8 @@ enum { FIELDS = 3 };
 static const char layout[] = "ZZ,ZZ9V.99;$$,$$9V.99CR;(3)Z9;";
 
 static const char weighed[] = " 1,250.50" "  $312.62CR" "  42";
-static const char missed[] = "         " "  $312.62CR" "  43";
+static const char corrected[] = "     0.75" "    $0.05CR" "  43";
+static const char missed[] = "         " "  $312.62CR" "  44";
 
 static uint8_t plan[MORVENKA_PLAN_MAX];
 static size_t plan_length;
@@ -20,13 +22,25 @@ static size_t plan_length;
 /* Whether the answer is a success; prints the refusal if it isn't. */
 static int succeeded(const char *what, uint64_t answer)
 {
-    if (morvenka_number(answer) == MORVENKA_OK)
+    unsigned number = morvenka_number(answer);
+    if (number == MORVENKA_OK)
         return 1;
-    printf("%s: refused with number %u, field %u\n", what, morvenka_number(answer), morvenka_field(answer));
+    printf("%s: refused with %u, %s, at field %u\n", what, number, morvenka_name(number), morvenka_field(answer));
     return 0;
 }
 
-/* Reads a record, prints its values and edits them into a record again. */
+/* Prints a number of a row with its point: 125050 at scale 2 is 1250.50, and -5 is -0.05. It has 15 digits at most. */
+static void print_amount(int64_t m, size_t scale)
+{
+    unsigned long long digits = (unsigned long long)(m < 0 ? -m : m), unit = 1;
+    for (size_t places = 0; places < scale; places++)
+        unit *= 10;
+    printf("%s%llu", m < 0 ? "-" : "", digits / unit);
+    if (scale > 0)
+        printf(".%0*llu", (int)scale, digits % unit);
+}
+
+/* Reads a record, prints its amounts and edits them into a record again. */
 static void show(const char *what, const char *record, size_t length)
 {
     int64_t row[FIELDS];
@@ -34,8 +48,11 @@ static void show(const char *what, const char *record, size_t length)
     uint64_t answer = morvenka_plan_read(plan, plan_length, (const uint8_t *)record, length, (uint8_t *)row, sizeof row);
     if (!succeeded(what, answer))
         return;
-    for (size_t k = 0; k < morvenka_length(answer); k++)
-        printf("%s: field %zu is %lld\n", what, k + 1, (long long)row[k]);
+    for (size_t field = 1; field <= morvenka_length(answer); field++) {
+        printf("%s: field %zu is ", what, field);
+        print_amount(row[field - 1], morvenka_field_scale(plan, plan_length, field));
+        printf("\n");
+    }
     answer = morvenka_plan_edit(plan, plan_length, (const uint8_t *)row, sizeof row, edited, sizeof edited);
     if (succeeded(what, answer))
         printf("%s: \"%.*s\"\n", what, (int)morvenka_length(answer), (const char *)edited);
@@ -47,8 +64,9 @@ int main(void)
     if (!succeeded("layout", answer))
         return 1;
     plan_length = morvenka_length(answer);
-    printf("layout: compiled to a plan of %zu bytes\n", plan_length);
+    printf("layout: %zu fields, %zu characters\n", morvenka_plan_fields(plan, plan_length), morvenka_plan_record(plan, plan_length));
     show("weighed", weighed, sizeof weighed - 1);
+    show("corrected", corrected, sizeof corrected - 1);
     show("missed", missed, sizeof missed - 1);
     return 0;
 }
