@@ -33,12 +33,14 @@ module _ (n : ℕ) (input : List ℕ) (over : Bool) (l : n ≤ length input) (t 
   pub within : over ≡ false → length (take n input) ≤ mostInput
   within f = omega (arith, length-take-le n input l, ltb-false mostInput n (sym t ∙ f))
 
+  pub beyond : over ≡ true → mostInput < length (take n input)
+  beyond f = omega (arith, length-take-le n input l, ltb-true mostInput n (sym t ∙ f))
+
   pub over-printed : (out after : List ℕ) (r : ℕ) → over ≡ true → mostLine ≤ length out → r ≡ lineLength overLimit out → after ≡ lineMemory overLimit out
       → ListingLine (take n input) 0 (take r after) × (1 ≡ lineCount (take n input))
   unfolding lineCount
   over-printed out after r f room p q =
-      let h : mostInput < length (take n input) = omega (arith, length-take-le n input l, ltb-true mostInput n (sym t ∙ f)) in
-      rw (lt-leb (length (take n input)) mostInput h) ((refl, line-first overLimit out after r room p q), refl)
+      rw (lt-leb (length (take n input)) mostInput (beyond f)) ((refl, line-first overLimit out after r room p q), refl)
 
 -- Line 0, the layout's. What compiling has left says whether there are others, and is then the layout's plan.
 module _ (s l plan out : List ℕ) (r : Listed) (h : length s ≤ mostInput) (wide : mostPlan ≤ length plan) (e : l ≡ layoutIn s)
@@ -53,9 +55,12 @@ module _ (s l plan out : List ℕ) (r : Listed) (h : length s ≤ mostInput) (wi
       let t = line-first (layoutText l plan) out after (r .line) room (ap (λ (x : Listed). x .line) a) q in
       rw (le-leb (length s) mostInput h) (t ∙ layout-text l plan wide ∙ rw e)
 
+  pub not-accepted : r .plan ≡ 0 → accepted l ≡ false
+  not-accepted z = plan-none l plan (r .plan) wide compiled-length z
+
   pub layout-refused : r .plan ≡ 0 → 1 ≡ lineCount s
   unfolding lineCount
-  layout-refused z = rw (le-leb (length s) mostInput h, ← e, plan-none l plan (r .plan) wide compiled-length z)
+  layout-refused z = rw (le-leb (length s) mostInput h, ← e, not-accepted z)
 
   pub layout-taken : (after : List ℕ) → (r .plan ≡ 0 → ⊥) → after ≡ compileMemory l plan → HasPlan (layoutIn s) (take (r .plan) after)
   layout-taken after z q = rw (← e) (plan-first l plan (r .plan) wide compiled-length after z q)

@@ -8,10 +8,10 @@ use mathlib.Core.Option.{Option}
 use lib.Dec.{leb}
 use lib.IntN.{ℤ}
 use lib.ListN.{length, getD, drop, replicate}
-use Rattle.rules.specs.Layout.{accepted, forms}
+use Rattle.rules.specs.Layout.{forms}
 use Rattle.rules.specs.Answers.{RecordReads}
 use Rattle.rules.specs.Lister.{linesFrom, layoutLine, recordLine, overLimit}
-pub use Rattle.rules.specs.Layout.{HasPlan}
+pub use Rattle.rules.specs.Layout.{accepted, HasPlan}
 pub use Rattle.rules.specs.Lister.{mostInput}
 
 -- RULES 8.6: the record that the lister keeps; no accepted layout's record is longer (record-fits in proofs/Layouts.antt)

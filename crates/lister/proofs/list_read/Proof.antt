@@ -5,7 +5,7 @@ use lib.ListN.{length, length-replicate}
 use lib.Seq.{length-take-le}
 use borrow.Author.Needs.{needs}
 use Rattle.listing.specs.Program.{mostRecord}
-use Rattle.listing.proofs.Printing.{within, over-printed}
+use Rattle.listing.proofs.Printing.{within, beyond, over-printed}
 use Rattle.lister.proofs.list_read.Statement.{statement}
 use Rattle.lister.proofs.list_read.Tie as tie
 
@@ -25,12 +25,20 @@ print-line-requires c κs =
     let t = c .before .before .before .before .before .before .if1 .taken in
     over-printed _ _ _ (b .pre .0 .1) (a .is-over .ensures) _ _ _ t (b .pre .1 .2) (e .0) (e .1 .0) .0
 
+slice-aggregate-over-limit : tie.Need-slice-aggregate-over-limit
+slice-aggregate-over-limit c = sym (length-take-le _ _ (c .before .before .before .before .before .before .before .before .before .before .before .before .before .before .pre .0 .1))
+
+over-limit-requires : tie.Need-over-limit-requires
+over-limit-requires c κs =
+    let a = c .before .before .before .before .before .before .before .before .before in
+    beyond _ _ _ (a .before .before .before .before .before .pre .0 .1) (a .is-over .ensures) (c .before .before .before .before .before .before .before .before .if1 .taken)
+
 returns : tie.Need-returns
 returns c =
-    let a = c .before .before .before .before .before .before .before .before in
+    let a = c .before .before .before .before .before .before .before .before .before .before in
     let b = a .before .before .before .before .before in
-    let e = c .before .before .before .before .before .over-line .ensures in
-    let t = c .before .before .before .before .before .before .before .if1 .taken in
+    let e = c .before .before .before .before .before .before .before .over-line .ensures in
+    let t = c .before .before .before .before .before .before .before .before .before .if1 .taken in
     over-printed _ _ _ (b .pre .0 .1) (a .is-over .ensures) _ _ _ t (b .pre .1 .2) (e .0) (e .1 .0) .1
 
 slice-aggregate-list : tie.Need-slice-aggregate-list
@@ -52,6 +60,8 @@ list-read-spec =
     (λ c. search needs)
     slice-aggregate-print-line-2
     print-line-requires
+    slice-aggregate-over-limit
+    over-limit-requires
     (λ c. search needs)
     returns
     slice-aggregate-list

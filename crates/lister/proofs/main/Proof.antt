@@ -14,4 +14,4 @@ main-spec =
     (tie.spec
     (λ c. search needs) (λ c κs. search needs) (λ c. search needs) (λ c. search needs) (λ c. search needs) (λ c. search needs)
     list-read-requires
-    (λ c. search needs))
+    (λ c. search needs) (λ c. search needs))

@@ -1,0 +1,4 @@
+pub mod Commas
+pub mod Counting
+pub mod Ends
+pub mod Refusals
