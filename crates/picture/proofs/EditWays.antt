@@ -55,7 +55,7 @@ module _ (φ : Form) (m : ℤ) (q : ℕ) (n : Narrow φ) (s : Settled) (e : s �
       unfolding formAnswer formMemory firstOf
       no-room l = rw (room-number, lt-ltb (length out) (size φ) l) (refl, refl)
 
-      -- the sign and T are those of the value
+      -- the sign and the magnitude are those of the value
       minus-is : s .negative ≡ isMinus φ m q
       minus-is = settled-minus φ m q (n .digits) s e (sym number-is ∙ z)
 

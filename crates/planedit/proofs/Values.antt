@@ -45,7 +45,7 @@ module _ (φ : Form) (m : ℤ) (g : good φ ≡ true) where
     pub number-is : s .number ≡ fieldNumber φ m
     number-is = settled-number φ m (places φ) (few-digits φ g) s e
 
-    -- the sign and T are those of the value
+    -- the sign and the magnitude are those of the value
     made : fieldNumber φ m ≡ 0 → (f : Field) → f ≡ fieldRoom φ (s .negative) (s .t) → f ≡ roomOf (fieldOf φ m)
     unfolding edited
     made z f q =

@@ -1,6 +1,6 @@
 // A row edited by a plan into a record. Every refusal is settled before the first byte is written, so that a refusal changes
 // nothing: one pass settles each value against its field, another writes the fields. The second settles each value again; the
-// signs and T of the first are not kept, since the proof would have to tie a room of them to the row.
+// signs and magnitudes of the first are not kept, since the proof would have to tie a room of them to the row.
 mod fields; // fields.rt: one field of a plan, and the value that goes into it
 
 use answer::refused;

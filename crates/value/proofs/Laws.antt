@@ -1,5 +1,5 @@
 -- What is settled of a value by a form with no more digits than a picture may have: the number is that of the rules, and without a refusal the
--- sign and T are the value's own. Assumes nothing.
+-- sign and aligned magnitude are the value's own. Assumes nothing.
 use Prim.Native.Nat.{ℕ, _≤_}
 use mathlib.Core.Path.{_≡_, sym, _∙_}
 use mathlib.Core.List.{[], _∷_}

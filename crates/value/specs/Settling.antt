@@ -1,4 +1,4 @@
--- What is settled of a value before its field is made: VALUE and SIZE in their order (RULES 6.6), the sign and T. A form with more digits than a
+-- What is settled of a value before its field is made: VALUE and SIZE in their order (RULES 6.6), the sign and the aligned magnitude. A form with more digits than a
 -- picture may have takes no value. Assumes nothing.
 use Prim.Native.Nat.{ℕ}
 use mathlib.Core.Bool.{false, cond, _||_}

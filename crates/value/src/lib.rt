@@ -1,4 +1,4 @@
-// One value against one form: whether it is in range and fits, and the sign and the T that its field shows.
+// One value against one form: whether it is in range and fits, and the sign and the aligned magnitude that its field shows.
 use decimal::align::align;
 use decimal::sign::split;
 use field::measure;
@@ -9,7 +9,7 @@ ghost use Prim.Native.Nat.{_<_};
 ghost use Rattle.rules.specs.Form.{formed};
 ghost use Rattle.value.specs.Settling.{settledOf};
 
-// Number 0 with the sign and T; or VALUE or SIZE, with plus and 0.
+// Number 0 with the sign and the aligned magnitude; or VALUE or SIZE, with plus and 0.
 pub struct Settled {
     pub number: u8,
     pub negative: bool,

@@ -1,4 +1,4 @@
--- `planedit::fields::field_at` meets its contract: a value that the field takes has the sign and T that were settled. Assumes nothing.
+-- `planedit::fields::field_at` meets its contract: a value that the field takes has the sign and the magnitude that were settled. Assumes nothing.
 use borrow.Author.Needs.{needs}
 use Prim.Native.Nat.{_+_, _*_}
 use native.Mathlib.Omega.{arith}
