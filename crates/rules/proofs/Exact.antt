@@ -52,7 +52,7 @@ shown-digits (r ∷ rs) f k =
 pub shown-small : (rs f : List ℕ) → valueOf (shownIn rs f) < 10 ^ count isDigit rs
 shown-small rs f = let l = value-lt (shownIn rs f) (shown-digits rs f) in rw (shown-length rs f) at l
 
--- At the picture's own scale T is the magnitude, and what VALUE and SIZE ask is that it fits.
+-- At the picture's own scale the aligned magnitude is the magnitude, and what VALUE and SIZE ask is that it fits.
 module _ (φ : Form) where
   own-aligned : (m : ℤ) → aligned φ m (places φ) ≡ natAbs m
   unfolding aligned

@@ -1,4 +1,4 @@
--- The field of a sign and a T: its length, the character at each place, and that the digits which it shows are the digits of T. Assumes
+-- The field of a sign and a magnitude: its length, the character at each place, and that the digits which it shows are the magnitude's. Assumes
 -- nothing.
 use mathlib.Core.Path.{_≡_, refl, sym, _∙_, ap}
 use mathlib.Core.Bool.{Bool, true, false}
@@ -86,7 +86,7 @@ module _ (φ : Form) where
   pub length-field : (neg : Bool) (t : ℕ) → length (field φ neg t) ≡ size φ
   length-field neg t = rw (field-is neg t) (length-upTo _ _)
 
-  -- a T above 0 has a digit above 0 at some position
+  -- a magnitude above 0 has a digit above 0 at some position
   pub all-zero : (t : ℕ) → t < 10 ^ digitCount φ → ((k : ℕ) → k < size φ → isDigit (roleAt φ k) ≡ true → digitAt φ (digitsOf (digitCount φ) t) k ≡ 0) → t ≡ 0
   unfolding digitAt
   all-zero t l h =

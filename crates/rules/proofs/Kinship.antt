@@ -9,7 +9,7 @@ use borrow.Author.Tests.{eqb-true, eqb-false, leb-true, leb-false, not-true, le-
 use lib.Dec.{eqb, leb, ltb}
 use lib.ListN.{length}
 use Rattle.rules.specs.Words.{any, count, same, times}
-use Rattle.rules.specs.Roles.{isSuppressible}
+use Rattle.rules.specs.Roles.{isPunched, isSuppressible}
 use Rattle.rules.specs.Form.{kindUpTo, ofKind, rolesFrom, suppresses}
 use Rattle.rules.specs.Good.{bears, inOrder, marksLast, plainNumber, suppressing}
 use Rattle.rules.proofs.Logic.{both, by-test, eqb-swap, neither}
@@ -271,8 +271,8 @@ marks-map : (v : ℕ) (xs : List ℕ) → marksLast v (map markOnly xs) ≡ mark
 unfolding marksLast
 marks-map v [] = refl
 marks-map v (x ∷ xs) =
-    let p = same-marks (x ∷ xs) (11 ∷ 12 ∷ []) (unfold any plainNumber in refl) in
-    let q = same-marks (x ∷ xs) (13 ∷ 14 ∷ []) (unfold any plainNumber in refl) in
+    let p = same-marks (x ∷ xs) (11 ∷ 12 ∷ []) (unfold any plainNumber isPunched in refl) in
+    let q = same-marks (x ∷ xs) (13 ∷ 14 ∷ []) (unfold any plainNumber isPunched in refl) in
     rw (p, q, mark-plain x, marks-map (v - 1) xs)
 
 like : (v : ℕ) (xs ys : List ℕ) → map markOnly xs ≡ map markOnly ys → marksLast v xs ≡ marksLast v ys

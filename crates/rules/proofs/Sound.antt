@@ -13,7 +13,7 @@ use lib.ListN.{length, getD}
 use Rattle.rules.specs.Words.{any}
 use Rattle.rules.specs.Search.{each, first}
 use Rattle.rules.specs.Text.{next}
-use Rattle.rules.specs.Roles.{drifts, isDigit, isFirstDrifting, isNine, isSign, isStatic, isSuppressible, opens, roleLimit}
+use Rattle.rules.specs.Roles.{drifts, isDigit, isFirstDrifting, isNine, isPunched, isSign, isStatic, isSuppressible, opens, roleLimit}
 use Rattle.rules.specs.Form.{Form, roleAt, size}
 use Rattle.rules.specs.Shape.{drifting, driftsBeforeV, ninesLast, staticsPlaced}
 use Rattle.rules.specs.Edit.{opening}
@@ -22,13 +22,13 @@ use Rattle.rules.proofs.Search.{each-at, first-holds}
 use Rattle.rules.proofs.Forms.{Good, shape-parts}
 use Rattle.rules.proofs.Lists.{all, any-behind, any-none, member-at}
 use Rattle.rules.proofs.Logic.{both, by-test, lt-or-le, neither, none-of, or-cases}
-use Rattle.rules.proofs.Spelling.{by-marks}
+use Rattle.rules.proofs.Spelling.{by-marks, plain-small}
 
 pub record Sound (φ : Form) : Type 0 where
   -- there is no other role
   pub known : (k : ℕ) → k < size φ → roleAt φ k < roleLimit
-  -- a sign stands before the stretch can open, or no digit stands behind it
-  pub apart : (k : ℕ) → k < size φ → isSign (roleAt φ k) ≡ true → (k < opening φ) ⊎ ((j : ℕ) → k ≤ j → j < size φ → isDigit (roleAt φ j) ≡ false)
+  -- a sign that is no digit stands before the stretch can open, or no digit stands behind it
+  pub apart : (k : ℕ) → k < size φ → isSign (roleAt φ k) ≡ true → isDigit (roleAt φ k) ≡ false → (k < opening φ) ⊎ ((j : ℕ) → k ≤ j → j < size φ → isDigit (roleAt φ j) ≡ false)
   -- the first drifting symbol stands before every digit, and V does not stand before it
   pub before : drifts (φ .kind) ≡ true → (j : ℕ) → j ≤ opening φ → isDigit (roleAt φ j) ≡ false
   pub inside : drifts (φ .kind) ≡ true → (opening φ < size φ) × (opening φ < φ .vee)
@@ -42,10 +42,10 @@ openingIn rs = first (λ k. opensAt rs k) (length rs)
 
 -- Facts about single roles, by computing over all of them.
 static-no-digit : (r : ℕ) → isStatic r ≡ true → isDigit r ≡ false
-unfolding isStatic isDigit isNine isSuppressible
+unfolding isStatic isDigit isNine isPunched isSuppressible first each
 static-no-digit r e =
-    let l = leb-true 3 r (both (leb 3 r) _ e .0) in
-    rw (ne-eqb r 0 (λ q. omega arith), ne-eqb r 1 (λ q. omega arith))
+    let l : r < 7 = omega (arith, leb-true r 6 (both (leb 3 r) _ e .1)) in
+    not-true _ (rw e at (each-at (λ j. not (isStatic j) || not (isDigit j)) 7 r refl l))
 
 static-no-opening : (r : ℕ) → isStatic r ≡ true → opens r ≡ false
 unfolding isStatic opens isSuppressible isFirstDrifting
@@ -61,9 +61,11 @@ plain-digit : (r : ℕ) → isNine r ≡ false → isSuppressible r ≡ false �
 unfolding isDigit
 plain-digit r n u = rw (n, u)
 
-sign-static : (r : ℕ) → r < roleLimit → isSign r ≡ true → (isStatic r ≡ true) ⊎ (leb 11 r ≡ true)
-unfolding isSign isStatic first each
-sign-static r l e = or-cases (isStatic r) _ (rw e at (each-at (λ j. not (isSign j) || (isStatic j || leb 11 j)) roleLimit r refl l))
+sign-static : (r : ℕ) → r < roleLimit → isSign r ≡ true → isDigit r ≡ false → (isStatic r ≡ true) ⊎ (plainNumber r ≡ false)
+unfolding isSign isStatic isDigit isNine isPunched isSuppressible plainNumber first each
+sign-static r l e d =
+    let h : (isStatic r || not (plainNumber r)) ≡ true = rw (e, d) at (each-at (λ j. not (isSign j) || (isDigit j || (isStatic j || not (plainNumber j)))) roleLimit r refl l) in
+    ⊎-elim (λ s. inl s) (λ n. inr (not-true _ n)) (or-cases (isStatic r) _ h)
 
 -- Every role is known, and behind a mark's letter stands no digit.
 all-known : (v : ℕ) (rs : List ℕ) → marksLast v rs ≡ true → all (λ r. ltb r roleLimit) rs ≡ true
@@ -71,22 +73,21 @@ unfolding all
 all-known v [] h = refl
 all-known v (r ∷ rs) h =
     by-marks v r rs h (λ n p q. rw (p, q)) (λ n p q. rw (p, q))
-    (λ l q. rw (lt-ltb r roleLimit (unfold plainNumber in omega (arith, leb-true r 10 l)), all-known (v - 1) rs q))
+    (λ l q. rw (lt-ltb r roleLimit (plain-small r l), all-known (v - 1) rs q))
 
-mark-tail : (v : ℕ) (rs : List ℕ) → marksLast v rs ≡ true → (k : ℕ) → leb 11 (getD rs k 0) ≡ true → (j : ℕ) → k ≤ j → j < length rs → isDigit (getD rs j 0) ≡ false
-unfolding plainNumber
+mark-tail : (v : ℕ) (rs : List ℕ) → marksLast v rs ≡ true → (k : ℕ) → plainNumber (getD rs k 0) ≡ false → (j : ℕ) → k ≤ j → j < length rs → isDigit (getD rs j 0) ≡ false
 mark-tail v [] h k e j a l = absurd (not-suc-le-zero l)
 mark-tail v (r ∷ rs) h zero e j a l =
     by-marks v r rs h
-    (λ n p q. any-none isDigit (r ∷ rs) (rw (p, q) (unfold any isDigit isNine isSuppressible in refl)) j l)
-    (λ n p q. any-none isDigit (r ∷ rs) (rw (p, q) (unfold any isDigit isNine isSuppressible in refl)) j l)
-    (λ p q. let z : ⊥ = omega (arith, leb-true r 10 p, leb-true 11 r e) in absurd z)
+    (λ n p q. any-none isDigit (r ∷ rs) (rw (p, q) (unfold any isDigit isNine isPunched isSuppressible in refl)) j l)
+    (λ n p q. any-none isDigit (r ∷ rs) (rw (p, q) (unfold any isDigit isNine isPunched isSuppressible in refl)) j l)
+    (λ p q. absurd (true≢false (sym p ∙ e)))
 mark-tail v (r ∷ rs) h (suc k) e zero a l = absurd (not-suc-le-zero a)
 mark-tail v (r ∷ rs) h (suc k) e (suc j) a l =
     let next : marksLast (v - 1) rs ≡ true → isDigit (getD rs j 0) ≡ false = λ q. mark-tail (v - 1) rs q k e j (le-of-suc-le-suc a) (le-of-suc-le-suc l) in
     by-marks v r rs h
-    (λ n p q. any-none isDigit (r ∷ rs) (rw (p, q) (unfold any isDigit isNine isSuppressible in refl)) (suc j) l)
-    (λ n p q. any-none isDigit (r ∷ rs) (rw (p, q) (unfold any isDigit isNine isSuppressible in refl)) (suc j) l)
+    (λ n p q. any-none isDigit (r ∷ rs) (rw (p, q) (unfold any isDigit isNine isPunched isSuppressible in refl)) (suc j) l)
+    (λ n p q. any-none isDigit (r ∷ rs) (rw (p, q) (unfold any isDigit isNine isPunched isSuppressible in refl)) (suc j) l)
     (λ p q. next q)
 
 -- A static symbol has no digit and no first drifting symbol before it, or no digit behind it.
@@ -141,7 +142,7 @@ pub record Leads (rs : List ℕ) (o : ℕ) : Type 0 where
   pub ahead : (j : ℕ) → j ≤ o → isDigit (getD rs j 0) ≡ false
 
 leads-here : (r : ℕ) (rs : List ℕ) → isFirstDrifting r ≡ true → Leads (r ∷ rs) (openingIn (r ∷ rs))
-unfolding first opens isFirstDrifting isSuppressible isDigit isNine
+unfolding first opens isFirstDrifting isSuppressible isDigit isNine isPunched
 leads-here r rs e = rw (eqb-true r 2 e) (record { below = omega arith; drifting = refl; ahead = at })
   where
     at : (j : ℕ) → j ≤ 0 → isDigit (getD (2 ∷ rs) j 0) ≡ false
@@ -179,16 +180,16 @@ module _ (φ : Form) (g : Good φ) where
   known : (k : ℕ) → k < size φ → roleAt φ k < roleLimit
   known k l = ltb-true _ roleLimit (member-at (λ r. ltb r roleLimit) (φ .roles) (all-known (φ .vee) (φ .roles) (g .marks)) refl k)
 
-  apart : (k : ℕ) → k < size φ → isSign (roleAt φ k) ≡ true → (k < opening φ) ⊎ ((j : ℕ) → k ≤ j → j < size φ → isDigit (roleAt φ j) ≡ false)
+  apart : (k : ℕ) → k < size φ → isSign (roleAt φ k) ≡ true → isDigit (roleAt φ k) ≡ false → (k < opening φ) ⊎ ((j : ℕ) → k ≤ j → j < size φ → isDigit (roleAt φ j) ≡ false)
   unfolding opening
-  apart k l e =
+  apart k l e n =
       ⊎-elim
       (λ (t : isStatic (roleAt φ k) ≡ true). ⊎-elim
       (λ (i : (false ≡ false) × Quiet (φ .roles) k). inl (quiet-early (φ .roles) k l (i .1) (static-no-opening _ t)))
       (λ (i : Ended (φ .roles) k). inr i)
       (statics-apart false (φ .roles) (shape-parts φ (g .shape) .statics) k l t))
-      (λ (m : leb 11 (roleAt φ k) ≡ true). inr (mark-tail (φ .vee) (φ .roles) (g .marks) k m))
-      (sign-static _ (known k l) e)
+      (λ (m : plainNumber (roleAt φ k) ≡ false). inr (mark-tail (φ .vee) (φ .roles) (g .marks) k m))
+      (sign-static _ (known k l) e n)
 
   drift-leads : drifts (φ .kind) ≡ true → Leads (φ .roles) (openingIn (φ .roles))
   unfolding drifts bears

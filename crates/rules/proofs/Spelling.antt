@@ -5,11 +5,12 @@ use mathlib.Core.Path.{_≡_, refl}
 use mathlib.Core.Bool.{Bool, true, false, not, _&&_, _||_, or-true}
 use mathlib.Core.List.{List, [], _∷_, map}
 use native.Mathlib.Omega.{arith}
-use borrow.Author.Tests.{eqb-true, eqb-false, leb-true, not-true, lt-ltb, le-ltb}
-use lib.Dec.{eqb, ltb, leb·suc-suc}
+use borrow.Author.Tests.{eqb-true, eqb-false, leb-true, ltb-true, not-true, lt-ltb, le-ltb}
+use lib.Dec.{eqb, leb, ltb, leb·suc-suc}
 use lib.ListN.{length}
 use Rattle.rules.specs.Words.{has, one, place, same, times}
 use Rattle.rules.specs.Text.{isMark, isSymbol, symbols, theV}
+use Rattle.rules.specs.Roles.{isPunched, roleLimit}
 use Rattle.rules.specs.Form.{number, numbered, numbers, size}
 use Rattle.rules.specs.Edit.{marks}
 use Rattle.rules.specs.Good.{marksLast, plainNumber}
@@ -18,7 +19,7 @@ use Rattle.rules.proofs.Lists.{all, all-below, allBelow, member-at, mem
 use Rattle.rules.proofs.Logic.{both, by-or, by-test, eqb-swap}
 use Rattle.rules.proofs.WriteBack.{letterOf, letters, withV}
 
--- one of the eleven plain letters: neither V nor a mark's first letter, and its number is found again
+-- the letter of a plain number: neither V nor a mark's first letter, and its number is found again
 pub record PlainLetter (c : ℕ) : Type 0 where
   pub no-c : eqb (letterOf c) (code "C") ≡ false
   pub no-d : eqb (letterOf c) (code "D") ≡ false
@@ -31,15 +32,15 @@ plainTest c =
     not (eqb (letterOf c) (code "C")) && (not (eqb (letterOf c) (code "D")) && (not (eqb (letterOf c) theV)
     && (eqb (number (letterOf c)) c && isSymbol (letterOf c))))
 
-pub plain-small : (c : ℕ) → plainNumber c ≡ true → c < 64
+pub plain-small : (c : ℕ) → plainNumber c ≡ true → c < roleLimit
 unfolding plainNumber
-plain-small c l = omega (arith, leb-true c 10 l)
+plain-small c l = by-or (leb c 10) _ l (λ e. omega (arith, leb-true c 10 e)) (λ e. ltb-true c roleLimit (both (isPunched c) _ e .1))
 
 pub plain-letter : (c : ℕ) → plainNumber c ≡ true → PlainLetter c
 unfolding plainTest
 plain-letter c l =
     let e : (not (plainNumber c) || plainTest c) ≡ true =
-    all-below 64 (λ n. not (plainNumber n) || plainTest n) (unfold allBelow plainNumber number place has in refl) c (plain-small c l) in
+    all-below roleLimit (λ n. not (plainNumber n) || plainTest n) (unfold allBelow plainNumber isPunched number place has in refl) c (plain-small c l) in
     let w = both _ _ (rw l at e) in
     let x = both _ _ (w .1) in
     let y = both _ _ (x .1) in
@@ -47,7 +48,7 @@ plain-letter c l =
     record { no-c = not-true _ (w .0); no-d = not-true _ (x .0); no-v = not-true _ (y .0); numbered = eqb-true _ _ (z .0); symbol = z .1 }
 
 pub plain-number : (b : ℕ) → isSymbol b ≡ true → eqb b theV ≡ false → plainNumber (number b) ≡ true
-unfolding plainNumber number
+unfolding plainNumber isPunched number
 plain-number b h e = rw e at (members (λ x. eqb x theV || plainNumber (number x)) symbols (unfold all place has in refl) b h)
 
 -- no letter is V

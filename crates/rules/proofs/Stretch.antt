@@ -1,4 +1,4 @@
--- Where printing starts and what stands in the stretch: before printing starts a digit is 0 and no 9, a cell shows the digit of its position,
+-- Where printing starts and what stands in the stretch: before printing starts a digit is 0 and no nine, a cell shows the digit of its position,
 -- and the stretch of a drifting symbol holds that symbol's character. Assumes nothing.
 use mathlib.Core.Path.{_≡_, refl, sym, _∙_}
 use mathlib.Core.Bool.{Bool, true, false, not, _&&_, _||_, true≢false}
@@ -40,7 +40,7 @@ module _ (φ : Form) (ds : List ℕ) where
   unfolding inStretch
   stretch-in k h l = rw (le-leb _ _ h, lt-ltb _ _ l)
 
-  -- before printing starts, a digit is 0 and no 9
+  -- before printing starts, a digit is 0 and no nine
   pub early : (k : ℕ) → k < start φ ds → isDigit (roleAt φ k) ≡ true → (digitAt φ ds k ≡ 0) × (isNine (roleAt φ k) ≡ false)
   unfolding isShown firstShown
   early k h e =
@@ -57,10 +57,10 @@ module _ (φ : Form) (ds : List ℕ) where
       (λ (i : inStretch φ ds k ≡ true).
       let z = early k (stretch-to k i) e .0 in
       rw i (⊎-elim (λ (q : here ≡ true). rw q (mark-shows _ neg (both (drifts (φ .kind)) _ q .0) ∙ sym z)) (λ (q : here ≡ false). rw q (fill-shows _ _ ∙ sym z)) (side here)))
-      (λ (i : inStretch φ ds k ≡ false). rw (i, e) (digit-shows _ neg _ e (ok _)))
+      (λ (i : inStretch φ ds k ≡ false). rw (i, e) (digit-shows _ neg _ (ok _)))
       (side (inStretch φ ds k))
 
--- the first position that holds a nonzero digit or a 9
+-- the first position that holds a nonzero digit or a nine
 unfoldable pub counts : (φ : Form) → List ℕ → ℕ → Bool
 counts φ ds k = isDigit (roleAt φ k) && (not (eqb (digitAt φ ds k) 0) || isNine (roleAt φ k))
 

@@ -1,13 +1,13 @@
 -- Two values with one field are equal: the digits shown give the magnitude, and where it is above 0 the two forms of the sign differ at a
 -- position outside the stretch, or at the drifting character. Assumes nothing.
 use mathlib.Core.Path.{_≡_, refl, sym, _∙_, ap}
-use mathlib.Core.Bool.{Bool, true, false, true≢false, and-false}
+use mathlib.Core.Bool.{Bool, true, false, true≢false, _&&_, and-false}
 use mathlib.Core.List.{List}
 use mathlib.Core.Logic.{⊎-elim}
 use Prim.Native.Nat.{ℕ, _^_, _<_, _≤_}
 use native.Mathlib.Omega.{arith}
 use borrow.Author.Tests.{lt-leb, le-ltb, ne-eqb}
-use lib.Dec.{leb}
+use lib.Dec.{leb, ltb}
 use lib.ListN.{getD}
 use Rattle.rules.specs.Words.{any, same}
 use Rattle.rules.specs.Search.{first}
@@ -19,28 +19,29 @@ use Rattle.rules.specs.Edit.{allSuppressible, cell, cellAt, digitAt, dri
 use Rattle.rules.specs.Candidate.{Fits, shown}
 use Rattle.rules.proofs.Search.{any-first, first-holds, getD-upTo}
 use Rattle.rules.proofs.Digits.{digits-digits, value-digits}
-use Rattle.rules.proofs.Characters.{mark-differs, printed-differs, sign-drifts}
+use Rattle.rules.proofs.Characters.{mark-differs, printed-differs, sign-drifts, sign-nine}
 use Rattle.rules.proofs.Fields.{all-zero, field-cells, shown-field}
-use Rattle.rules.proofs.Logic.{by-or, lt-or-le}
+use Rattle.rules.proofs.Logic.{by-or, by-test, lt-or-le}
 use Rattle.rules.proofs.Sound.{Sound}
 use Rattle.rules.proofs.Stretch.{drifts-below, drifts-cell, early}
 
 module _ (φ : Form) (s : Sound φ) where
   module _ (t : ℕ) (small : t < 10 ^ digitCount φ) (some : 0 < t) where
-    -- a sign that does not drift stands outside the stretch
+    -- a sign that does not drift stands outside the stretch: one punched over a digit since that is a nine
     sign-outside : (k : ℕ) → k < size φ → isSign (roleAt φ k) ≡ true → inStretch φ (digitsOf (digitCount φ) t) k ≡ false
     unfolding inStretch
     sign-outside k l e =
         let ds = digitsOf (digitCount φ) t in
-        ⊎-elim
+        let behind : (k < start φ ds → ⊥) → (leb (opening φ) k && ltb k (start φ ds)) ≡ false = λ late. rw (le-ltb k (start φ ds) (omega arith)) (and-false (leb (opening φ) k)) in
+        by-test (isDigit (roleAt φ k))
+        (λ d. behind (λ b. true≢false (sym (sign-nine _ (s .known k l) e d) ∙ early φ ds k b d .1)))
+        (λ d. ⊎-elim
         (λ (b : k < opening φ). rw (lt-leb (opening φ) k b))
-        (λ (h : (j : ℕ) → k ≤ j → j < size φ → isDigit (roleAt φ j) ≡ false).
-        let late : k < start φ ds → ⊥ = λ b.
+        (λ (h : (j : ℕ) → k ≤ j → j < size φ → isDigit (roleAt φ j) ≡ false). behind (λ b.
         let z = all-zero φ t small (λ j m q. ⊎-elim
         (λ (n : j < k). early φ ds j (omega arith) q .0)
-        (λ (n : k ≤ j). absurd (true≢false (sym q ∙ h j n m))) (lt-or-le j k)) in omega arith in
-        rw (le-ltb k (start φ ds) (omega arith)) (and-false (leb (opening φ) k)))
-        (s .apart k l e)
+        (λ (n : k ≤ j). absurd (true≢false (sym q ∙ h j n m))) (lt-or-le j k)) in omega arith))
+        (s .apart k l e d))
 
     cells-differ : (k : ℕ) → k < size φ → (cellAt φ (digitsOf (digitCount φ) t) true k ≡ cellAt φ (digitsOf (digitCount φ) t) false k → ⊥) → field φ true t ≡ field φ false t → ⊥
     unfolding isBlank

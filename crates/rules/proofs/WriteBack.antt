@@ -16,7 +16,7 @@ numberOf k r = cond (eqb r 1 || eqb r 2) k r
 
 -- the letters of the numbers from 0 on, those of the marks among them
 abbrev pub letters : List ℕ
-letters = text "9Z*S+-$,./BCRDB"
+letters = text "9Z*S+-$,./BCRDBTIR"
 
 abbrev pub letterOf : ℕ → ℕ
 letterOf c = getD letters c 0

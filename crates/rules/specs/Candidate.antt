@@ -4,23 +4,26 @@ use mathlib.Core.Path.{_≡_}
 use mathlib.Core.Bool.{Bool, true, false, cond, _&&_}
 use mathlib.Core.List.{List, [], _∷_}
 use mathlib.Core.Option.{Option, none, some}
-use Prim.Native.Nat.{ℕ, _-_, _^_, _<_}
-use Prim.Native.Char.{code}
+use Prim.Native.Nat.{ℕ, _/_, _%_, _^_, _<_}
 use lib.IntN.{ℤ, pos, negℤ}
-use lib.Dec.{leb, ltb}
+use lib.Dec.{ltb}
 use lib.ListN.{getD, take, drop}
 use Rattle.rules.specs.declared.Reading.{Reading}
 use Rattle.rules.specs.declared.Reading.the-variants.{Value, Conversion}
-use Rattle.rules.specs.Words.{same}
+use Rattle.rules.specs.Words.{place, same}
 use Rattle.rules.specs.Digits.{valueOf}
 use Rattle.rules.specs.Roles.{isDigit}
 use Rattle.rules.specs.Form.{Form, size}
 use Rattle.rules.specs.Shape.{digitCount}
-use Rattle.rules.specs.Edit.{hasSign, field}
+use Rattle.rules.specs.Edit.{figures, hasSign, field}
 
--- what a character is worth as a digit: a digit itself, anything else 0
+-- what a character is worth as a digit: its place in its list of ten; one that is in no list has the place 30, and so is worth 0
 unfoldable pub digitIn : ℕ → ℕ
-digitIn c = cond (leb (code "0") c && leb c (code "9")) (c - code "0") 0
+digitIn c = place c figures % 10
+
+-- the list in which it stands, 3 where it stands in none
+unfoldable pub listIn : ℕ → ℕ
+listIn c = place c figures / 10
 
 -- the digits that a field shows, at the digits' positions
 unfoldable pub shownIn : List ℕ → List ℕ → List ℕ
@@ -40,12 +43,12 @@ abbrev pub signed : Bool → ℕ → ℤ
 signed false t = pos t
 signed true t = negℤ (pos t)
 
--- a sign and a T that a value at the picture's own scale can have
+-- a sign and a magnitude that a value at the picture's own scale can have
 pub record Fits (φ : Form) (negative : Bool) (t : ℕ) : Type 0 where
   pub small : t < 10 ^ digitCount φ
   pub sign : negative ≡ true → (0 < t) × (hasSign φ ≡ true)
 
--- a minus can stand with this T
+-- a minus can stand with this magnitude
 unfoldable pub minusFits : Form → ℕ → Bool
 minusFits φ t = ltb 0 t && hasSign φ
 

@@ -21,7 +21,7 @@ abbrev pub isNegative : ℤ → Bool
 isNegative (pos n) = false
 isNegative (negsuc n) = true
 
--- RULES 3.2: T, the magnitude at the picture's scale without its fraction
+-- RULES 3.2: the magnitude at the picture's scale without its fraction
 unfoldable pub aligned : Form → ℤ → ℕ → ℕ
 aligned φ m q = natAbs m * 10 ^ places φ / 10 ^ q
 
@@ -41,8 +41,8 @@ tooBig φ m q = leb (10 ^ whole φ) (natAbs m / 10 ^ q) || ltb 0 (aligned φ m q
 unfoldable pub fill : ℕ → ℕ
 fill kind = cond (eqb kind 2) (code "*") (code " ")
 
--- RULES 3.11 and 3.12: the characters of insertions, static symbols and marks. One column a role, under the symbols; the first three, the digits'
--- and the first drifting symbol's, are not used.
+-- RULES 3.11 and 3.12: the characters of insertions, static symbols and marks. One column for each role up to the marks' letters, under the symbols;
+-- those of the digits and of the first drifting symbol are not used.
 abbrev pub marks : Bool → List ℕ
 marks negative =
     cond negative
@@ -54,9 +54,20 @@ marks negative =
 unfoldable pub mark : ℕ → Bool → ℕ
 mark r negative = getD (marks negative) r 0
 
--- RULES 3.10: the character of a digit
+-- RULES 3.10: the three lists one behind the other: the digit itself, with a plus punched over it, and with a minus
+abbrev pub figures : List ℕ
+figures = text "0123456789{ABCDEFGHI}JKLMNOPQR"
+
+-- the list from which a digit prints: of T, of I, of R and of every other digit
+unfoldable pub listOf : ℕ → Bool → ℕ
+listOf r negative =
+    cond (eqb r 15) (cond negative 2 1)
+    (cond (eqb r 16) (cond negative 0 1)
+    (cond (eqb r 17) (cond negative 2 0) 0))
+
+-- the character of a digit
 unfoldable pub digitChar : ℕ → Bool → ℕ → ℕ
-digitChar r negative d = code "0" + d
+digitChar r negative d = getD figures (10 * listOf r negative + d) 0
 
 -- outside the stretch each position prints
 unfoldable pub printed : ℕ → Bool → ℕ → ℕ
@@ -80,9 +91,9 @@ module _ (φ : Form) where
   unfoldable pub allSuppressible : Bool
   allSuppressible = not (any isNine (φ .roles))
 
-  -- The digits of T.
+  -- The digits of the value.
   module _ (ds : List ℕ) where
-    -- RULES 3.5: the digit at position k: as many of T's digits stand before it as there are digits before k
+    -- RULES 3.5: the digit at position k: as many of the value's digits stand before it as there are digits before k
     unfoldable pub digitAt : ℕ → ℕ
     digitAt k = getD ds (count isDigit (take k (φ .roles))) 0
 
@@ -112,7 +123,7 @@ module _ (φ : Form) where
   unfoldable pub isBlank : ℕ → Bool
   isBlank t = allSuppressible && eqb t 0
 
-  -- the field of a sign and a T: everything suppressed, or else by the digits of T, as many as the picture has (RULES 3.5)
+  -- the field of a sign and an aligned magnitude: everything suppressed, or else by its digits, as many as the picture has (RULES 3.5)
   unfoldable pub field : Bool → ℕ → List ℕ
   field negative t =
       cond (isBlank t)

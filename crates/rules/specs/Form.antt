@@ -5,7 +5,7 @@ use mathlib.Core.Bool.{Bool, cond, _&&_, _||_}
 use mathlib.Core.List.{List, [], _∷_}
 use lib.Dec.{leb, ltb, eqb}
 use lib.ListN.{length, getD}
-use Rattle.rules.specs.Words.{text, times, place}
+use Rattle.rules.specs.Words.{text, has, times, place}
 use Rattle.rules.specs.Text.{theV, isMark, symbolsOf}
 use Rattle.rules.specs.Roles.{lastKind}
 
@@ -27,13 +27,16 @@ size φ = length (φ .roles)
 abbrev pub roleAt : Form → ℕ → ℕ
 roleAt φ k = getD (φ .roles) k 0
 
--- The symbols but V and the marks. A symbol's place here is its number: for Z * S + - $ that is its kind, for all but Z and * its role
--- where it is no drifting symbol.
+-- The symbols but V, the marks and those that are punched. A symbol's place here is its number: for Z * S + - $ that is its kind, for all but Z and * its role
+-- where it is no drifting symbol. Then come the numbers of the marks' letters, and behind them those that are punched.
 abbrev pub numbered : List ℕ
 numbered = text "9Z*S+-$,./B"
 
+abbrev pub punched : List ℕ
+punched = text "TIR"
+
 unfoldable pub number : ℕ → ℕ
-number b = place b numbered
+number b = cond (has b numbered) (place b numbered) (15 + place b punched)
 
 -- the numbers of a picture's positions
 unfoldable pub numbers : List ℕ → List ℕ

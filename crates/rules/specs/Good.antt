@@ -6,13 +6,13 @@ use mathlib.Core.List.{List, [], _∷_}
 use lib.Dec.{leb, ltb, eqb}
 use Rattle.rules.specs.Words.{one, times, any, same}
 use Rattle.rules.specs.Text.{mostSymbols}
-use Rattle.rules.specs.Roles.{isSuppressible, lastKind}
+use Rattle.rules.specs.Roles.{isPunched, isSuppressible, lastKind, roleLimit}
 use Rattle.rules.specs.Form.{Form, size, suppresses}
 use Rattle.rules.specs.Shape.{formShape, digitsFit}
 
--- the number of a symbol that may stand anywhere: no letter of a mark
+-- the number of a symbol that may stand anywhere: no letter of a mark, and nothing past the roles
 unfoldable pub plainNumber : ℕ → Bool
-plainNumber c = leb c 10
+plainNumber c = leb c 10 || isPunched c && ltb c roleLimit
 
 -- how many of the kinds 1 to k suppress: RULES 2.6 and 2.7 say together that one of all does at most
 unfoldable pub suppressing : ℕ → List ℕ → ℕ

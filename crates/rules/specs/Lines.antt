@@ -4,7 +4,7 @@
 -- there of every input. Assumes nothing.
 use Prim.Native.String.{String}
 use mathlib.Core.List.{List, [], _∷_, _++_}
-use lib.IntN.{pos}
+use lib.IntN.{ℤ, pos}
 use lib.ListN.{replicate}
 use Rattle.rules.specs.Words.{text}
 use Rattle.rules.specs.Sheet.{Line, accepts, compiles, compilesInto, edits, editsInto, forbids, joined, keeps, lists, minus, noPlan, packs, planEdits, planReads, reads, readsRun, refusal, refuses, rejects, repeated, series, spoils, stores, success}
@@ -90,7 +90,89 @@ digits =
     edits "ZZV.ZZ" (pos 5) 2 "  .05" ∷
     edits "V$9" (pos 5) 1 "$5" ∷ []
 
--- RULES 3.7: everything suppressed, signs, $ and insertions too, under Z, under * and under a drifting symbol; but not where there is a 9.
+-- Rows of ten numbers.
+abbrev pub rising : List ℤ
+rising = pos 0 ∷ pos 1 ∷ pos 2 ∷ pos 3 ∷ pos 4 ∷ pos 5 ∷ pos 6 ∷ pos 7 ∷ pos 8 ∷ pos 9 ∷ []
+
+abbrev pub falling : List ℤ
+falling = minus 10 ∷ minus 11 ∷ minus 12 ∷ minus 13 ∷ minus 14 ∷ minus 15 ∷ minus 16 ∷ minus 17 ∷ minus 18 ∷ minus 19 ∷ []
+
+abbrev pub sevens : List ℤ
+sevens = replicate 10 (pos 7)
+
+-- RULES 3.10: each character of the three lists, by each of the symbols that are punched, with both signs, edited and read.
+abbrev pub punches : List Line
+punches =
+    planEdits (repeated 10 "T;") rising "##########" (success 10 (pos 0)) "{ABCDEFGHI" ∷
+    planEdits (repeated 10 "9T;") falling "####################" (success 20 (pos 0)) "1}1J1K1L1M1N1O1P1Q1R" ∷
+    planEdits (repeated 10 "I;") rising "##########" (success 10 (pos 0)) "{ABCDEFGHI" ∷
+    planEdits (repeated 10 "9I;") falling "####################" (success 20 (pos 0)) "10111213141516171819" ∷
+    planEdits (repeated 10 "R;") rising "##########" (success 10 (pos 0)) "0123456789" ∷
+    planEdits (repeated 10 "9R;") falling "####################" (success 20 (pos 0)) "1}1J1K1L1M1N1O1P1Q1R" ∷
+    planReads (repeated 10 "T;") "{ABCDEFGHI" sevens (success 10 (pos 0)) rising ∷
+    planReads (repeated 10 "9T;") "1}1J1K1L1M1N1O1P1Q1R" sevens (success 10 (pos 0)) falling ∷
+    planReads (repeated 10 "I;") "{ABCDEFGHI" sevens (success 10 (pos 0)) rising ∷
+    planReads (repeated 10 "9I;") "10111213141516171819" sevens (success 10 (pos 0)) falling ∷
+    planReads (repeated 10 "R;") "0123456789" sevens (success 10 (pos 0)) rising ∷
+    planReads (repeated 10 "9R;") "1}1J1K1L1M1N1O1P1Q1R" sevens (success 10 (pos 0)) falling ∷ []
+
+-- RULES 2.3, 3.3, 3.7, 3.8 and 4.4: T, I and R wherever a 9 may stand, before V and behind it, behind what is suppressible and among insertions; they
+-- print, and a zero is plus.
+abbrev pub punched : List Line
+punched =
+    edits "99T" (pos 123) 0 "12C" ∷
+    edits "99T" (minus 123) 0 "12L" ∷
+    edits "99I" (minus 123) 0 "123" ∷
+    edits "99R" (minus 123) 0 "12L" ∷
+    edits "T99" (minus 123) 0 "J23" ∷
+    edits "9I9" (pos 123) 0 "1B3" ∷
+    edits "RV9" (minus 12) 1 "J2" ∷
+    edits "9V9T" (minus 123) 2 "12L" ∷
+    edits "VT" (minus 5) 1 "N" ∷
+    edits "9,9T/" (minus 123) 0 "1,2L/" ∷
+    edits "ZZT" (pos 0) 0 "  {" ∷
+    edits "ZZI" (minus 40) 0 " 40" ∷
+    edits "ZZR" (minus 40) 0 " 4}" ∷
+    edits "ZT9" (minus 5) 0 " }5" ∷
+    edits "ZI9" (pos 5) 0 " {5" ∷
+    edits "ZR9" (minus 5) 0 " }5" ∷
+    edits "ZZI" (pos 0) 0 "  {" ∷
+    edits "ZZR" (pos 0) 0 "  0" ∷
+    edits "9VI" (minus 12) 1 "12" ∷
+    edits "V9R" (minus 12) 2 "1K" ∷
+    edits "9T" (minus 1) 0 "0J" ∷
+    edits "9I" (minus 1) 0 "01" ∷
+    edits "9R" (minus 1) 0 "0J" ∷
+    edits "**T" (minus 5) 0 "**N" ∷
+    edits "ZZV.9T" (pos 5) 2 "  .0E" ∷
+    edits "$$,$$T" (pos 5) 0 "    $E" ∷
+    edits "$$$R" (minus 12) 0 " $1K" ∷
+    edits "T" (minus 9) 1 "{" ∷
+    edits "I" (minus 9) 1 "{" ∷
+    edits "R" (minus 9) 1 "0" ∷
+    refuses "T" (pos 10) 0 8 ∷
+    refuses "9R" (minus 100) 0 8 ∷
+    reads "9T" "1{" (pos 10) ∷
+    reads "ZZT" "  {" (pos 0) ∷
+    reads "ZT9" " }5" (minus 5) ∷
+    reads "$$$R" " $1K" (minus 12) ∷
+    rejects "I" "0" 10 ∷
+    rejects "T" "0" 10 ∷
+    rejects "T" "}" 10 ∷
+    rejects "R" "}" 10 ∷
+    rejects "99T" "00}" 10 ∷
+    rejects "T" "5" 10 ∷
+    rejects "I" "N" 10 ∷
+    rejects "R" "E" 10 ∷
+    rejects "T" "e" 10 ∷
+    rejects "T" " " 10 ∷
+    rejects "ZZT" "   " 10 ∷
+    rejects "ZZT" "00{" 10 ∷
+    rejects "9" "E" 10 ∷
+    rejects "Z9" "E5" 10 ∷
+    rejects "9T" "{5" 10 ∷ []
+
+-- RULES 3.7: everything suppressed, signs, $ and insertions too, under Z, under * and under a drifting symbol; but not where there is a nine.
 abbrev pub blanks : List Line
 blanks =
     edits "S$Z,Z.Z/ZBZ" (pos 0) 0 "           " ∷
@@ -135,7 +217,7 @@ alignment =
     edits "$ZV9" (minus 9) 2 "$ 0" ∷
     refuses "$ZV9" (minus 10) 2 8 ∷ []
 
--- RULES 4: reading takes each symbol's characters for both signs, and nothing else: no minus zero, no blank for a 9, no other fill.
+-- RULES 4: reading takes each symbol's characters for both signs, and nothing else: no minus zero, no blank for a nine, no other fill.
 abbrev pub readings : List Line
 readings =
     reads "S9V9" "+19" (pos 19) ∷
@@ -170,7 +252,7 @@ readings =
     rejects "9B9" "1B2" 10 ∷
     rejects "$$9" "$ 5" 10 ∷ []
 
--- RULES 1: factors, the marks as the last two bytes, no other letter, and what is kept of a picture, in a room of 64.
+-- RULES 1: factors, the marks as the last two bytes beside R as a symbol, no other letter, and what is kept of a picture, in a room of 64.
 abbrev pub texts : List Line
 texts =
     accepts "(2)9(1)B9" 4 ∷
@@ -195,15 +277,27 @@ texts =
     forbids "9CRV" 2 ∷
     forbids "9DBB" 2 ∷
     forbids "CR9" 2 ∷
-    forbids "9R" 2 ∷
+    forbids "CRR" 2 ∷
+    forbids "RCR" 4 ∷
+    accepts "9R" 2 ∷
+    edits "9R" (minus 11) 0 "1J" ∷
+    edits "9CR" (minus 1) 0 "1CR" ∷
+    accepts "(1)T" 1 ∷
+    accepts "9(1)I" 2 ∷
+    forbids "(2)T" 4 ∷
+    forbids "(2)I" 4 ∷
+    forbids "9(3)I" 4 ∷
+    forbids "(1)R" 2 ∷
+    forbids "(2)R" 2 ∷
     forbids "9D" 2 ∷
     forbids "9C" 2 ∷
     forbids "9CVR" 2 ∷
     forbids "( 2)9" 2 ∷
     forbids "z" 2 ∷
     forbids " 9" 2 ∷
-    forbids "9T" 2 ∷
-    forbids "9I" 2 ∷
+    forbids "t" 2 ∷
+    forbids "9i" 2 ∷
+    forbids "r9" 2 ∷
     forbids "9Y" 2 ∷
     forbids "9E9" 2 ∷
     forbids "9K9" 2 ∷
@@ -212,6 +306,8 @@ texts =
     forbids "X" 2 ∷
     forbids "9;" 2 ∷
     keeps "(2)9V9CR" (text "99V9CR" ++ replicate 58 0) 6 ∷
+    keeps "9V(1)T" (text "9VT" ++ replicate 61 0) 3 ∷
+    keeps "9R" (text "9R" ++ replicate 62 0) 2 ∷
     keeps "(61)B9CR" (replicate 61 66 ++ text "9CR") 64 ∷
     keeps "(64)9V" (replicate 64 0) 0 ∷
     keeps "9Z" (replicate 64 0) 0 ∷ []
@@ -236,19 +332,28 @@ suppressions =
     forbids "*--" 4 ∷
     accepts "$Z" 2 ∷
     accepts "-**" 3 ∷
-    -- nothing suppressible behind a 9
+    -- nothing suppressible behind a nine
     forbids "9*" 4 ∷
     forbids "9$$" 4 ∷
     forbids "$$9$" 4 ∷
+    forbids "TZ" 4 ∷
+    forbids "I*" 4 ∷
+    forbids "R$$" 4 ∷
     accepts "Z9" 2 ∷
+    accepts "ZT" 2 ∷
     -- one behind V only where all are suppressible
     forbids "9VZ" 4 ∷
     forbids "ZVZ9" 4 ∷
     forbids "V**9" 4 ∷
     forbids "$$9V$" 4 ∷
+    forbids "IVZ" 4 ∷
+    forbids "ZVZT" 4 ∷
+    forbids "ZVZI" 4 ∷
+    forbids "ZVZR" 4 ∷
     accepts "ZVZ" 2 ∷
     accepts "$$V$" 3 ∷
     accepts "ZV9" 2 ∷
+    accepts "ZVR" 2 ∷
     -- a drifting symbol begins left of V
     forbids "V$$" 4 ∷
     forbids "V,--" 4 ∷
@@ -270,18 +375,56 @@ placements =
     forbids "SS9DB" 4 ∷
     forbids "--9CR" 4 ∷
     forbids "++9S" 4 ∷
+    forbids "TT" 4 ∷
+    forbids "T9I" 4 ∷
+    forbids "RI" 4 ∷
+    forbids "RVR" 4 ∷
+    forbids "S9T" 4 ∷
+    forbids "I9+" 4 ∷
+    forbids "-R" 4 ∷
+    forbids "TCR" 4 ∷
+    forbids "IDB" 4 ∷
+    forbids "SST" 4 ∷
+    forbids "++I" 4 ∷
+    forbids "--9R" 4 ∷
+    forbids "TR" 4 ∷
+    forbids "II" 4 ∷
+    forbids "T+" 4 ∷
+    forbids "-T" 4 ∷
+    forbids "TDB" 4 ∷
+    forbids "S9I" 4 ∷
+    forbids "-9I" 4 ∷
+    forbids "ICR" 4 ∷
+    forbids "RS" 4 ∷
+    forbids "+9R" 4 ∷
+    forbids "RDB" 4 ∷
+    forbids "++T" 4 ∷
+    forbids "--9T" 4 ∷
+    forbids "SSI" 4 ∷
+    forbids "--I" 4 ∷
+    forbids "SSR" 4 ∷
+    forbids "++9R" 4 ∷
     accepts "$9CR" 4 ∷
+    accepts "$T" 2 ∷
+    accepts "$$9I" 4 ∷
     accepts "$$9DB" 5 ∷
     -- a static symbol outside the digits and the drifting symbols
     forbids "9$9" 4 ∷
     forbids "9S9" 4 ∷
     forbids "ZV-Z" 4 ∷
+    forbids "T$9" 4 ∷
+    forbids "I$9" 4 ∷
+    forbids "R$9" 4 ∷
+    forbids "9$T" 4 ∷
+    forbids "9$I" 4 ∷
+    forbids "9$R" 4 ∷
     forbids "$S$" 4 ∷
     forbids "S$S" 4 ∷
     forbids "$$S9" 4 ∷
     accepts "S$9" 3 ∷
     accepts "9S$" 3 ∷
     accepts "S9$" 3 ∷
+    accepts "9T$" 3 ∷
     accepts "$$9S" 4 ∷
     -- which isn't judged where there is no digit, though the others are
     forbids "S$" 5 ∷
@@ -327,6 +470,8 @@ limits =
     accepts "(16)$" 16 ∷
     forbids "(17)$" 5 ∷
     accepts "(8)9V(7)9" 15 ∷
+    accepts "(14)9T" 15 ∷
+    forbids "(15)9T" 5 ∷
     forbids "(8)9V(8)9" 5 ∷ []
 
 -- RULES 3.1: each limit of a value, on both sides.
@@ -420,7 +565,7 @@ planOrders =
     planEdits "9;99V9;S9;" (pos 9 ∷ pos 999 ∷ pos 1000000000000000 ∷ []) "" (refusal 6 3) "" ∷
     planEdits "9;99V9;S9;" (pos 9 ∷ pos 999 ∷ minus 9 ∷ []) "#####" (refusal 7 0) "#####" ∷ []
 
--- RULES 5.3, each byte of a plan: the roles 0 to 14, the kinds 0 to 6, V at every place, and a record length of two bytes.
+-- RULES 5.3, each byte of a plan: the roles 0 to 17, the kinds 0 to 6, V at every place, and a record length of two bytes.
 abbrev pub plans : List Line
 plans =
     compiles "9;" (1 ∷ 1 ∷ 1 ∷ 0 ∷ 0 ∷ 1 ∷ 0 ∷ []) ∷
@@ -437,14 +582,19 @@ plans =
     compiles "9,./B;" (1 ∷ 5 ∷ 5 ∷ 0 ∷ 0 ∷ 5 ∷ 0 ∷ 7 ∷ 8 ∷ 9 ∷ 10 ∷ []) ∷
     compiles "9CR;" (1 ∷ 3 ∷ 3 ∷ 0 ∷ 0 ∷ 3 ∷ 0 ∷ 11 ∷ 12 ∷ []) ∷
     compiles "9DB;" (1 ∷ 3 ∷ 3 ∷ 0 ∷ 0 ∷ 3 ∷ 0 ∷ 13 ∷ 14 ∷ []) ∷
+    compiles "9T;" (1 ∷ 2 ∷ 2 ∷ 0 ∷ 0 ∷ 2 ∷ 0 ∷ 15 ∷ []) ∷
+    compiles "ZZI;" (1 ∷ 3 ∷ 3 ∷ 1 ∷ 0 ∷ 3 ∷ 1 ∷ 1 ∷ 16 ∷ []) ∷
+    compiles "9R;" (1 ∷ 2 ∷ 2 ∷ 0 ∷ 0 ∷ 2 ∷ 0 ∷ 17 ∷ []) ∷
+    compiles "RV9;" (1 ∷ 2 ∷ 1 ∷ 0 ∷ 0 ∷ 2 ∷ 17 ∷ 0 ∷ []) ∷
     compiles "9V9;" (1 ∷ 2 ∷ 1 ∷ 0 ∷ 0 ∷ 2 ∷ 0 ∷ 0 ∷ []) ∷
     compiles "V9;" (1 ∷ 1 ∷ 0 ∷ 0 ∷ 0 ∷ 1 ∷ 0 ∷ []) ∷
     compiles "9V;" (1 ∷ 1 ∷ 1 ∷ 0 ∷ 0 ∷ 1 ∷ 0 ∷ []) ∷
     compiles "9VCR;" (1 ∷ 3 ∷ 1 ∷ 0 ∷ 0 ∷ 3 ∷ 0 ∷ 11 ∷ 12 ∷ []) ∷
     compiles (repeated 5 "(63)B9;") (5 ∷ series 5 (64 ∷ 64 ∷ 0 ∷ []) ++ (1 ∷ 64 ∷ series 5 (replicate 63 10 ++ (0 ∷ [])))) ∷ []
 
--- RULES 5.4, bytes that are no plan: no field, a byte less or more, another count, the count's bytes exchanged, a kind that no position bears out, V
--- within a mark, half a mark, two signs, a symbol drifting and static, one drifting alone, two dollar signs, a suppressible digit between V and a
+-- RULES 5.4, bytes that are no plan: no field, a byte less or more, another count, the count's bytes exchanged, a kind that no position bears out, a byte
+-- past the roles, V within a mark, half a mark, a mark that ends in the symbol R, two signs, two punched ones, a drifting one and a mark beside a punched
+-- one, a suppressible digit behind one, a symbol drifting and static, one drifting alone, two dollar signs, a suppressible digit between V and a
 -- nine, 64 positions and a V, 16 digits, 33 fields.
 abbrev pub noPlans : List Line
 noPlans =
@@ -457,11 +607,18 @@ noPlans =
     noPlan (1 ∷ 1 ∷ 1 ∷ 1 ∷ 0 ∷ 1 ∷ 0 ∷ []) ∷
     noPlan (1 ∷ 1 ∷ 1 ∷ 7 ∷ 0 ∷ 1 ∷ 0 ∷ []) ∷
     noPlan (1 ∷ 1 ∷ 2 ∷ 0 ∷ 0 ∷ 1 ∷ 0 ∷ []) ∷
-    noPlan (1 ∷ 2 ∷ 2 ∷ 0 ∷ 0 ∷ 2 ∷ 0 ∷ 15 ∷ []) ∷
+    noPlan (1 ∷ 2 ∷ 2 ∷ 0 ∷ 0 ∷ 2 ∷ 0 ∷ 18 ∷ []) ∷
     noPlan (1 ∷ 2 ∷ 2 ∷ 1 ∷ 0 ∷ 2 ∷ 0 ∷ 1 ∷ []) ∷
     noPlan (1 ∷ 3 ∷ 2 ∷ 0 ∷ 0 ∷ 3 ∷ 0 ∷ 11 ∷ 12 ∷ []) ∷
     noPlan (1 ∷ 3 ∷ 3 ∷ 0 ∷ 0 ∷ 3 ∷ 0 ∷ 13 ∷ 10 ∷ []) ∷
+    noPlan (1 ∷ 3 ∷ 3 ∷ 0 ∷ 0 ∷ 3 ∷ 0 ∷ 11 ∷ 17 ∷ []) ∷
+    noPlan (1 ∷ 2 ∷ 2 ∷ 0 ∷ 0 ∷ 2 ∷ 0 ∷ 12 ∷ []) ∷
     noPlan (1 ∷ 3 ∷ 3 ∷ 0 ∷ 0 ∷ 3 ∷ 3 ∷ 0 ∷ 5 ∷ []) ∷
+    noPlan (1 ∷ 3 ∷ 3 ∷ 0 ∷ 0 ∷ 3 ∷ 3 ∷ 0 ∷ 15 ∷ []) ∷
+    noPlan (1 ∷ 2 ∷ 2 ∷ 0 ∷ 0 ∷ 2 ∷ 15 ∷ 17 ∷ []) ∷
+    noPlan (1 ∷ 2 ∷ 2 ∷ 1 ∷ 0 ∷ 2 ∷ 16 ∷ 1 ∷ []) ∷
+    noPlan (1 ∷ 3 ∷ 3 ∷ 5 ∷ 0 ∷ 3 ∷ 2 ∷ 1 ∷ 15 ∷ []) ∷
+    noPlan (1 ∷ 3 ∷ 3 ∷ 0 ∷ 0 ∷ 3 ∷ 17 ∷ 11 ∷ 12 ∷ []) ∷
     noPlan (1 ∷ 3 ∷ 3 ∷ 3 ∷ 0 ∷ 3 ∷ 3 ∷ 2 ∷ 1 ∷ []) ∷
     noPlan (1 ∷ 2 ∷ 2 ∷ 3 ∷ 0 ∷ 2 ∷ 2 ∷ 0 ∷ []) ∷
     noPlan (1 ∷ 3 ∷ 3 ∷ 0 ∷ 0 ∷ 3 ∷ 6 ∷ 0 ∷ 6 ∷ []) ∷
@@ -509,8 +666,9 @@ listings =
     lists "9;\n55\n5\n" "0,0,0,1,1\n1,9,0\n2,0,0,5\n" ∷
     lists "9;\r\n5\r\n" "0,11,0\n" ∷
     lists "9;\n5\r\n \n" "0,0,0,1,1\n1,9,0\n2,10,1\n" ∷
+    lists "9V9T;9;\n12L1\n12C2\n1233\n12L}\n" "0,0,0,2,4\n1,0,0,-123,1\n2,0,0,123,2\n3,10,1\n4,10,2\n" ∷
     lists "S9V9;99;\n-1207\n+0007\n-0007\n+12x7\n" "0,0,0,2,5\n1,0,0,-12,7\n2,0,0,0,7\n3,10,1\n4,10,2\n" ∷ []
 
 -- All of them as one list.
 abbrev pub ours : List Line
-ours = statics ++ drifting ++ insertions ++ digits ++ blanks ++ alignment ++ readings ++ texts ++ suppressions ++ placements ++ limits ++ values ++ layouts ++ memory ++ orders ++ planOrders ++ plans ++ noPlans ++ runs ++ listings
+ours = statics ++ drifting ++ insertions ++ digits ++ punches ++ punched ++ blanks ++ alignment ++ readings ++ texts ++ suppressions ++ placements ++ limits ++ values ++ layouts ++ memory ++ orders ++ planOrders ++ plans ++ noPlans ++ runs ++ listings

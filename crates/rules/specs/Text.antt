@@ -23,7 +23,7 @@ textFits t = leb 1 (length t) && leb (length t) mostText
 
 -- RULES 1.2: the symbols of one byte
 abbrev pub symbols : List ℕ
-symbols = text "9Z*V,./BS+-$"
+symbols = text "9Z*V,./BS+-$TIR"
 
 abbrev pub isSymbol : ℕ → Bool
 isSymbol b = has b symbols
@@ -34,7 +34,7 @@ isMark t = same t (text "CR") || same t (text "DB")
 
 -- RULES 1.4: what a factor may stand before, and how many copies it may ask for
 abbrev pub repeatable : List ℕ
-repeatable = text "9Z*,./BS+-$"
+repeatable = text "9Z*,./BS+-$TI"
 
 abbrev pub repeats : ℕ → Bool
 repeats b = has b repeatable
@@ -92,7 +92,7 @@ abbrev pub onto : List ℕ → Option (List ℕ) → Option (List ℕ)
 onto xs none = none
 onto xs (some ys) = some (xs ++ ys)
 
--- The end is looked at first (RULES 1.3): a text that ends in the letters DB ends in the mark.
+-- The end is looked at first (RULES 1.3): a text that ends in the letters DB or CR ends in the mark.
 unfoldable pub expandFrom : Mode → List ℕ → Option (List ℕ)
 expandFrom m [] = ended m
 expandFrom m (b ∷ s) =
