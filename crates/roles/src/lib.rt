@@ -1,27 +1,37 @@
-// What a role is, what a character is worth, how many positions stand before V, and the characters that roles show. Every byte has an answer, so that no call has to ask
+// What a role is, how many positions stand before V, and the characters that roles show. Every byte has an answer, so that no call has to ask
 // first whether it is a role.
-pub mod marks; // marks.rt: the characters
+pub mod figures; // figures.rt: the characters of digits
+pub mod marks; // marks.rt: the other characters
 
 ghost use mathlib.Core.Path.{_≡_};
 ghost use Prim.Native.Nat.{_≤_, _<_, min};
 ghost use Rattle.rules.specs.Words.{one};
-ghost use Rattle.rules.specs.Text.{isDecimal};
-ghost use Rattle.rules.specs.Roles.{isNine, isDigit, opens, isSign, drifts, driftsSign};
-ghost use Rattle.rules.specs.Candidate.{digitIn};
+ghost use Rattle.rules.specs.Roles.{isPunched, isNine, isDigit, isBare, opens, isSign, drifts, driftsSign};
+
+// T, I and R.
+pub fn is_punched(role: u8) -> bool
+    ensures { λ r. ⌜ r ≡ isPunched role ⌝ }
+{
+    15 <= role
+}
 
 pub fn is_nine(role: u8) -> bool
     ensures { λ r. ⌜ r ≡ isNine role ⌝ }
 {
-    role == 0
+    (role == 0) | is_punched(role)
 }
 
 pub fn is_digit(role: u8) -> bool
     ensures { λ r. ⌜ r ≡ isDigit role ⌝ }
 {
-    if role == 0 {
-        return true;
-    }
-    role == 1
+    (role <= 1) | is_punched(role)
+}
+
+// A digit over which nothing is punched.
+pub fn is_bare(role: u8) -> bool
+    ensures { λ r. ⌜ r ≡ isBare role ⌝ }
+{
+    role <= 1
 }
 
 // How many digits the position holds: 1 or 0.
@@ -44,20 +54,11 @@ pub fn does_open(role: u8) -> bool
     role == 2
 }
 
-// S, + and -, and CR and DB by their first letters.
+// S, + and -, CR and DB by their first letters, and what is punched over a digit.
 pub fn is_sign(role: u8) -> bool
     ensures { λ r. ⌜ r ≡ isSign role ⌝ }
 {
-    if role < 3 {
-        return false;
-    }
-    if role <= 5 {
-        return true;
-    }
-    if role == 11 {
-        return true;
-    }
-    role == 13
+    ((3 <= role) & (role <= 5)) | ((role == 11) | ((role == 13) | is_punched(role)))
 }
 
 pub fn does_drift(kind: u8) -> bool
@@ -86,24 +87,4 @@ pub fn before_vee(vee: usize, n: usize) -> usize
         return vee;
     }
     n
-}
-
-// The character is a digit.
-pub fn is_decimal(c: u8) -> bool
-    ensures { λ r. ⌜ r ≡ isDecimal c ⌝ }
-{
-    (b'0' <= c) & (c <= b'9')
-}
-
-// What a character is worth as a digit; one that is none is worth 0.
-pub fn digit_in(c: u8) -> u8
-    ensures { λ r. ⌜ (r ≡ digitIn c) × (r < 10) ⌝ }
-{
-    if c < b'0' {
-        return 0;
-    }
-    if c <= b'9' {
-        return c - b'0';
-    }
-    0
 }

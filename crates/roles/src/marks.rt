@@ -1,11 +1,11 @@
-// The characters that roles show, and the marks CR and DB where a text ends in one.
+// The characters of roles that are no digits, and the marks CR and DB where a text ends in one.
 ghost use mathlib.Core.Path.{_≡_};
 ghost use mathlib.Core.Bool.{cond};
 ghost use lib.ListN.{drop};
 ghost use Rattle.rules.specs.Text.{isMark};
 ghost use Rattle.rules.specs.Edit.{mark, fill};
 
-fn chosen(test: bool, yes: u8, no: u8) -> u8
+pub(crate) fn chosen(test: bool, yes: u8, no: u8) -> u8
     ensures { λ r. ⌜ r ≡ cond test yes no ⌝ }
 {
     if test {
@@ -15,7 +15,7 @@ fn chosen(test: bool, yes: u8, no: u8) -> u8
 }
 
 // RULES 3.11 and 3.12: the character of a role that is no digit, and of a drifting symbol by the kind, which has the number of the symbol's static
-// role. CR and DB are written and compared as the letters of these two strings. A byte that is no role shows 0.
+// role. CR and DB are written and compared as the letters of these two strings. T, I, R and a byte that is no role have none: 0.
 pub fn mark_of(role: u8, negative: bool) -> u8
     ensures { λ r. ⌜ r ≡ mark role negative ⌝ }
 {
