@@ -7,31 +7,24 @@ use mathlib.Core.List.{List, [], _∷_}
 use native.Mathlib.Omega.{arith}
 use borrow.Author.Tests.{eqb-true, eqb-false, eq-eqb, ne-eqb, leb-true, le-leb, lt-leb, not-true}
 use lib.Dec.{eqb, leb}
-use lib.ListN.{length, getD}
-use Rattle.rules.specs.Words.{text, one, times, place, same}
+use lib.ListN.{getD}
+use Rattle.rules.specs.Words.{text, has, one, times, place, same}
 use Rattle.rules.specs.Text.{theV, isMark}
 use Rattle.rules.specs.Roles.{lastKind}
-use Rattle.rules.specs.Form.{numbered, number, numbers, suppresses, kindUpTo}
+use Rattle.rules.specs.Form.{numbered, punched, number, numbers, suppresses, kindUpTo}
 use Rattle.rules.specs.Shape.{drifting, oneDrifts, suppressionApart}
 use Rattle.rules.specs.Good.{suppressing}
 use Rattle.rules.proofs.Logic.{by-test, by-or, both}
-use Rattle.rules.proofs.Lists.{allBelow, all-below, same-eq}
+use Rattle.rules.proofs.Lists.{allBelow, all-below, same-eq, has-place}
 use Rattle.rules.proofs.Spelling.{numbers-v, numbers-other}
 use Rattle.rules.proofs.Forms.{one-suppresses, suppresses-one}
 use Rattle.form.specs.Rooms.{kindLetter}
-
--- a place in a list holds what was looked for
-place-at : (x : ℕ) (l : List ℕ) → place x l < length l → getD l (place x l) 0 ≡ x
-unfolding place
-place-at x [] h = absurd (omega arith)
-place-at x (y ∷ ys) h =
-    by-test (eqb x y) (λ e. rw e (sym (eqb-true x y e))) (λ e. let z : suc (place x ys) < suc (length ys) = rw e at h in rw e (place-at x ys (omega arith)))
 
 -- facts about the six kinds, by computing
 kind-number : (k : ℕ) → 1 ≤ k → k ≤ 6 → number (kindLetter k) ≡ k
 unfolding number
 kind-number k p q =
-    let e : (eqb k 0 || eqb (place (kindLetter k) numbered) k) ≡ true = all-below 7 (λ j. eqb j 0 || eqb (place (kindLetter j) numbered) j) (unfold allBelow place kindLetter in refl) k (omega arith) in
+    let e : (eqb k 0 || eqb (number (kindLetter k)) k) ≡ true = all-below 7 (λ j. eqb j 0 || eqb (number (kindLetter j)) j) (unfold allBelow has place kindLetter in refl) k (omega arith) in
     eqb-true _ k (rw (ne-eqb k 0 (λ z. omega arith)) at e)
 
 kind-letter : (k : ℕ) → 1 ≤ k → k ≤ 6 → getD numbered k 0 ≡ kindLetter k
@@ -46,9 +39,10 @@ no-v : (k : ℕ) → k ≤ 6 → eqb (kindLetter k) theV ≡ false
 no-v k q = not-true _ (all-below 7 (λ j. not (eqb (kindLetter j) theV)) (unfold allBelow kindLetter in refl) k (omega arith))
 
 module _ (k : ℕ) (p : 1 ≤ k) (q : k ≤ 6) where
+  -- a number of a kind is a place among the numbered symbols
   number-at : (b : ℕ) → k ≡ number b → getD numbered (number b) 0 ≡ b
   unfolding number
-  number-at b n = place-at b numbered (omega arith)
+  number-at b n = by-test (has b numbered) (λ e. rw e (has-place b numbered e .1)) (λ e. let z : k ≡ 15 + place b punched = rw e at n in absurd (omega arith))
 
   -- a position has number k exactly where it has the symbol of kind k
   number-letter : (b : ℕ) → eqb k (number b) ≡ eqb (kindLetter k) b

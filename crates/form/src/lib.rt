@@ -142,43 +142,27 @@ pub fn one_suppresses(picture: Picture) -> bool
     found.kinds <= 1
 }
 
+// The number of a symbol that is no V and no mark. The marks' letters have 11 to 14; a byte that is no symbol gets 18.
 fn number_of(symbol: u8) -> u8
     ensures { λ r. ⌜ r ≡ number symbol ⌝ }
 {
-    if symbol == b'9' {
-        return 0;
+    match symbol {
+        b'9' => 0,
+        b'Z' => 1,
+        b'*' => 2,
+        b'S' => 3,
+        b'+' => 4,
+        b'-' => 5,
+        b'$' => 6,
+        b',' => 7,
+        b'.' => 8,
+        b'/' => 9,
+        b'B' => 10,
+        b'T' => 15,
+        b'I' => 16,
+        b'R' => 17,
+        _ => 18,
     }
-    if symbol == b'Z' {
-        return 1;
-    }
-    if symbol == b'*' {
-        return 2;
-    }
-    if symbol == b'S' {
-        return 3;
-    }
-    if symbol == b'+' {
-        return 4;
-    }
-    if symbol == b'-' {
-        return 5;
-    }
-    if symbol == b'$' {
-        return 6;
-    }
-    if symbol == b',' {
-        return 7;
-    }
-    if symbol == b'.' {
-        return 8;
-    }
-    if symbol == b'/' {
-        return 9;
-    }
-    if symbol == b'B' {
-        return 10;
-    }
-    11
 }
 
 fn is_of_kind(kind: u8, number: u8) -> bool

@@ -1,5 +1,5 @@
 // From picture text to symbols: one walk over the bytes, whose state is what has been read of a factor.
-use roles::is_decimal;
+use roles::figures::is_decimal;
 use roles::marks::mark_at;
 use rules::Mode;
 use rules::Picture;
@@ -26,50 +26,18 @@ pub struct Expanded {
 fn is_symbol(b: u8) -> bool
     ensures { λ r. ⌜ r ≡ isSymbol b ⌝ }
 {
-    if b == b'9' {
-        return true;
-    }
-    if b == b'Z' {
-        return true;
-    }
-    if b == b'*' {
-        return true;
-    }
-    if b == b'V' {
-        return true;
-    }
-    if b == b',' {
-        return true;
-    }
-    if b == b'.' {
-        return true;
-    }
-    if b == b'/' {
-        return true;
-    }
-    if b == b'B' {
-        return true;
-    }
-    if b == b'S' {
-        return true;
-    }
-    if b == b'+' {
-        return true;
-    }
-    if b == b'-' {
-        return true;
-    }
-    if b == b'$' {
-        return true;
-    }
-    false
+    let digit_or_v = (b == b'9') | (b == b'Z') | (b == b'*') | (b == b'V');
+    let insertion = (b == b',') | (b == b'.') | (b == b'/') | (b == b'B');
+    let can_drift = (b == b'S') | (b == b'+') | (b == b'-') | (b == b'$');
+    let punched = (b == b'T') | (b == b'I') | (b == b'R');
+    digit_or_v | insertion | can_drift | punched
 }
 
-// What a factor may repeat.
+// What a factor may repeat: every symbol of one byte but V and R.
 fn can_repeat(b: u8) -> bool
     ensures { λ r. ⌜ r ≡ repeats b ⌝ }
 {
-    if b == b'V' {
+    if (b == b'V') | (b == b'R') {
         return false;
     }
     is_symbol(b)

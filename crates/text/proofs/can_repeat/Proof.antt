@@ -1,11 +1,11 @@
--- `text::can_repeat` meets its contract: the symbols that a factor may repeat are all but V. Assumes nothing.
+-- `text::can_repeat` meets its contract: the symbols that a factor may repeat are all but V and R. Assumes nothing.
 use borrow.Author.Needs.{needs}
-use Rattle.text.proofs.Bytes.{v-repeats, symbol-repeats}
+use Rattle.text.proofs.Bytes.{single-repeats, symbol-repeats}
 use Rattle.text.proofs.can_repeat.Statement.{statement}
 use Rattle.text.proofs.can_repeat.Tie as tie
 
 returns : tie.Need-returns
-returns c = v-repeats _ (c .if1 .taken)
+returns c = single-repeats _ (c .if1 .taken)
 
 returns-2 : tie.Need-returns-2
 returns-2 c = rw (c .is-symbol .ensures) (symbol-repeats _ (c .before .if1 .left))
