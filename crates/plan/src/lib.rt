@@ -14,7 +14,7 @@ ghost use Rattle.shape.specs.Machine.{machine, weights};
 ghost use Rattle.plan.specs.Widths.{TwoBytes, fillsBytes};
 
 // Whether each field has the form of some accepted picture, by the judge's tables, and their positions are all that is left.
-fn all_good(next: &[u8; 272], weight: &[u32; 16], bytes: &[u8], count: usize) -> bool
+fn all_good(next: &[u8; 285], weight: &[u32; 19], bytes: &[u8], count: usize) -> bool
     requires { ⌜ (count ≡ fieldCount (now bytes)) × (count ≤ mostPictures) × (3 * count + 3 ≤ length (now bytes)) × (now next ≡ machine) × (now weight ≡ weights) ⌝ }
     ensures { λ r. ⌜ r ≡ (fillsBytes (now (bytes .entry)) && allGood (formsIn (now (bytes .entry)))) ⌝ }
 {

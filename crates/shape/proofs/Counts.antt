@@ -2,14 +2,14 @@
 -- nothing.
 use Prim.Native.Nat.{ℕ, zero, suc, _+_, _<_, _≤_}
 use mathlib.Core.Path.{_≡_, refl, sym, _∙_}
-use mathlib.Core.Bool.{Bool, not}
+use mathlib.Core.Bool.{Bool, not, or-false}
 use mathlib.Core.List.{List, [], _∷_}
 use native.Mathlib.Omega.{arith}
 use borrow.Author.Tests.{eq-eqb, eqb-true, lt-leb, ltb-true, ltb-false, le-leb, ne-eqb}
 use lib.Dec.{eqb, leb, ltb}
 use lib.ListN.{getD}
 use Rattle.rules.specs.Words.{any, count, one, times}
-use Rattle.rules.specs.Roles.{isDigit, isFirstDrifting, isNine, isSign, isSuppressible, roleLimit}
+use Rattle.rules.specs.Roles.{isDigit, isFirstDrifting, isNine, isPunched, isSign, isSuppressible, roleLimit}
 use Rattle.rules.proofs.Logic.{by-test, eqb-swap}
 use Rattle.rules.proofs.Search.{getD-upTo}
 use Rattle.shape.specs.declared.Walked.{Walked}
@@ -19,11 +19,11 @@ count-more : (p : ℕ → Bool) (r : ℕ) (rs : List ℕ) → count p (r ∷ rs)
 unfolding count
 count-more p r rs = by-test (p r) (λ e. rw e (omega arith)) (λ e. rw e (omega arith))
 
--- a byte that is no role weighs nothing
-weight-out : (r : ℕ) → roleLimit ≤ r → weightOf r ≡ 0
-unfolding isDigit isFirstDrifting isNine isSuppressible isSign
+-- all bytes that are no role weigh the same
+weight-out : (r : ℕ) → roleLimit ≤ r → weightOf r ≡ 16385
+unfolding isDigit isFirstDrifting isNine isPunched isSuppressible isSign
 weight-out r l =
-    rw (ne-eqb r 0 (λ q. omega arith), ne-eqb r 1 (λ q. omega arith), ne-eqb r 2 (λ q. omega arith), ne-eqb r 6 (λ q. omega arith), ne-eqb r 11 (λ q. omega arith), ne-eqb r 13 (λ q. omega arith), lt-leb r 5 (omega arith), le-leb 3 r (omega arith))
+    rw (ne-eqb r 0 (λ q. omega arith), ne-eqb r 1 (λ q. omega arith), ne-eqb r 2 (λ q. omega arith), ne-eqb r 6 (λ q. omega arith), ne-eqb r 11 (λ q. omega arith), ne-eqb r 13 (λ q. omega arith), lt-leb r 5 (omega arith), le-leb 3 r (omega arith), le-leb 15 r (omega arith))
 
 abbrev pub weightsOf : List ℕ → ℕ
 weightsOf rs = summed (count isDigit rs) (count isSuppressible rs) (count isSign rs) (count isDollar rs) (count isFirstDrifting rs)
@@ -74,11 +74,14 @@ none-more p rs b = rw (any-count p rs) (at (count p rs))
     at (suc c) = rw (ne-eqb (b + suc c) b (λ q. omega arith), le-leb 1 (suc c) (omega arith))
 
 -- nines are the digits that are not suppressible
+digit-parts : (r : ℕ) → one (isDigit r) ≡ one (isSuppressible r) + one (isNine r)
+unfolding isDigit isSuppressible
+digit-parts r = by-test (eqb r 1) (λ e. rw (eqb-true r 1 e) (unfold isNine isPunched in refl)) (λ e. rw (e, or-false) (omega arith))
+
 pub digits-parts : (rs : List ℕ) → count isDigit rs ≡ count isSuppressible rs + count isNine rs
 digits-parts [] = unfold count in refl
 digits-parts (r ∷ rs) =
-    let apart : one (isDigit r) ≡ one (isSuppressible r) + one (isNine r) = unfold isDigit isNine isSuppressible in by-test (eqb r 0) (λ e. rw (eqb-true r 0 e)) (λ e. rw e (omega arith)) in
-    omega (arith, digits-parts rs, count-more isDigit r rs, count-more isNine r rs, count-more isSuppressible r rs)
+    omega (arith, digit-parts r, digits-parts rs, count-more isDigit r rs, count-more isNine r rs, count-more isSuppressible r rs)
 
 -- $ by its number
 pub dollars-times : (rs : List ℕ) → times 6 rs ≡ count isDollar rs

@@ -3,15 +3,15 @@
 -- looked at once more. Assumes nothing.
 use Prim.Native.Nat.{ℕ, zero, suc, _-_}
 use mathlib.Core.Path.{_≡_, refl, sym, ap, _∙_}
-use mathlib.Core.Bool.{Bool, true, false, cond, not, _&&_, _||_, and-false, and-assoc, and-true, or-false}
+use mathlib.Core.Bool.{Bool, true, false, cond, not, _&&_, _||_, and-false, and-assoc, and-true, or-false, false≢true}
 use mathlib.Core.List.{List, [], _∷_}
 use native.Mathlib.Omega.{arith}
-use borrow.Author.Tests.{eqb-true, leb-true, ne-eqb}
+use borrow.Author.Tests.{eqb-true, ne-eqb}
 use lib.Dec.{eqb, leb}
 use lib.ListN.{take, drop}
 use lib.Seq.{take-nil}
 use Rattle.rules.specs.Words.{any, same}
-use Rattle.rules.specs.Roles.{isDigit, isFirstDrifting, isNine, isStatic, isSuppressible}
+use Rattle.rules.specs.Roles.{isDigit, isFirstDrifting, isNine, isPunched, isStatic, isSuppressible}
 use Rattle.rules.specs.Shape.{ninesLast, staticsPlaced}
 use Rattle.rules.specs.Good.{inOrder, marksLast, plainNumber}
 use Rattle.rules.proofs.Lists.{same-eq}
@@ -73,14 +73,14 @@ marksFrom last rs =
 plain-more : (r : ℕ) (rs : List ℕ) → marksLast 0 (r ∷ rs) ≡ ((plainNumber r || opensMark r) && marksFrom r rs)
 unfolding marksFrom marksLast same
 plain-more r rs =
-    by-test (eqb r 11) (λ e. rw (eqb-true r 11 e) (unfold plainNumber in simp or-false))
-    (λ e. by-test (eqb r 13) (λ f. rw (eqb-true r 13 f) (unfold plainNumber in simp or-false))
+    by-test (eqb r 11) (λ e. rw (eqb-true r 11 e) (unfold plainNumber isPunched in simp or-false))
+    (λ e. by-test (eqb r 13) (λ f. rw (eqb-true r 13 f) (unfold plainNumber isPunched in simp or-false))
     (λ f. by-test (plainNumber r) (λ p. rw (e, f, p)) (λ p. rw (e, f, p))))
 
 marks-more : (last r : ℕ) (rs : List ℕ) → marksFrom last (r ∷ rs) ≡ (mayFollow last r && marksFrom r rs)
 marks-more last r rs =
-    by-test (eqb last 11) (λ e. rw (eqb-true last 11 e) (unfold marksFrom same plainNumber in by-test (eqb r 12) (λ f. rw (eqb-true r 12 f)) (λ f. rw f)))
-    (λ e. by-test (eqb last 13) (λ f. rw (eqb-true last 13 f) (unfold marksFrom same plainNumber in by-test (eqb r 14) (λ g. rw (eqb-true r 14 g)) (λ g. rw g)))
+    by-test (eqb last 11) (λ e. rw (eqb-true last 11 e) (unfold marksFrom same plainNumber isPunched in by-test (eqb r 12) (λ f. rw (eqb-true r 12 f)) (λ f. rw f)))
+    (λ e. by-test (eqb last 13) (λ f. rw (eqb-true last 13 f) (unfold marksFrom same plainNumber isPunched in by-test (eqb r 14) (λ g. rw (eqb-true r 14 g)) (λ g. rw g)))
     (λ f. by-test (plainNumber last)
     (λ p. let u : marksFrom last (r ∷ rs) ≡ marksLast 0 (r ∷ rs) = unfold marksFrom in rw (e, f, p) in rw (u, e, f, p) (plain-more r rs))
     (λ p. let u : marksFrom last (r ∷ rs) ≡ false = unfold marksFrom same in rw (e, f, p) in rw (u, e, f, p))))
@@ -151,8 +151,10 @@ kept-before s [] h = h
 kept-before s (r ∷ rs) h = both (s .kept) (keeps s r) (kept-before (seenNext s r) rs h) .0
 
 plain-closed : (r : ℕ) → plainNumber r ≡ true → opensMark r ≡ false
-unfolding plainNumber
-plain-closed r p = let l = leb-true r 10 p in rw (ne-eqb r 11 (λ e. omega arith), ne-eqb r 13 (λ e. omega arith))
+unfolding plainNumber isPunched
+plain-closed r p =
+    by-test (eqb r 11) (λ e. absurd (false≢true (rw (eqb-true r 11 e) at p)))
+    (λ e. by-test (eqb r 13) (λ f. absurd (false≢true (rw (eqb-true r 13 f) at p))) (λ f. rw (e, f)))
 
 -- one of the two marks, and nothing else
 abbrev isMarks : List ℕ → Bool

@@ -5,10 +5,10 @@ use mathlib.Core.Path.{_≡_, refl, ap, _∙_}
 use mathlib.Core.Bool.{Bool, true, false, cond, not, _&&_, _||_, and-false, false≢true}
 use mathlib.Core.List.{List, [], _∷_}
 use native.Mathlib.Omega.{arith}
-use borrow.Author.Tests.{eqb-true, leb-true, lt-leb, ltb-true, ltb-false, ne-eqb}
+use borrow.Author.Tests.{eqb-true, le-ltb, leb-true, lt-leb, ltb-true, ltb-false, ne-eqb}
 use lib.Dec.{eqb, leb, ltb}
 use lib.ListN.{getD}
-use Rattle.rules.specs.Roles.{isDigit, isFirstDrifting, isNine, isStatic, isSuppressible, roleLimit}
+use Rattle.rules.specs.Roles.{isDigit, isFirstDrifting, isNine, isPunched, isStatic, isSuppressible, roleLimit}
 use Rattle.rules.specs.Good.{plainNumber}
 use Rattle.rules.proofs.Lists.{allBelow, all-below}
 use Rattle.rules.proofs.Logic.{and-at, both, by-test}
@@ -34,7 +34,7 @@ leadsFrom met begun astray nine =
     allBelow roleLimit (λ last. allBelow columns (λ r. leads (record { kept = true; last = last; met = met; begun = begun; astray = astray; nine = nine }) r))
 
 all-lead : eachWay (λ m. eachWay (λ b. eachWay (λ a. eachWay (λ n. leadsFrom m b a n)))) ≡ true
-unfolding allBelow leads entry seenAt phaseOf sane seenNext plainNumber isFirstDrifting isDigit isNine isSuppressible isStatic
+unfolding allBelow leads entry seenAt phaseOf sane seenNext plainNumber isFirstDrifting isDigit isNine isPunched isSuppressible isStatic
 all-lead = refl
 
 seen-leads : (m b a n : Bool) (last r : ℕ) → last < roleLimit → r < columns
@@ -50,7 +50,7 @@ seen-leads m b a n last r l h =
 keeps-out : (s : Seen) (r : ℕ) → roleLimit ≤ r → keeps s r ≡ false
 unfolding plainNumber
 keeps-out s r l =
-    rw (ne-eqb r 11 (λ e. omega arith), ne-eqb r 12 (λ e. omega arith), ne-eqb r 13 (λ e. omega arith), ne-eqb r 14 (λ e. omega arith), lt-leb r 10 (omega arith))
+    rw (ne-eqb r 11 (λ e. omega arith), ne-eqb r 12 (λ e. omega arith), ne-eqb r 13 (λ e. omega arith), ne-eqb r 14 (λ e. omega arith), lt-leb r 10 (omega arith), le-ltb r roleLimit l)
     (simp and-false)
 
 out : (s : Seen) (r : ℕ) → roleLimit ≤ r → seenNext s r .kept ≡ false
@@ -80,9 +80,9 @@ sane-last s k t = let q = rw k at t in ltb-true (s .last) roleLimit (both (ltb (
 -- The phases: none begins past the last row, and V or the end may stand where no rule is broken and no mark broken off.
 module _ (k x y p m a n b : Bool) where
   abbrev chosen : ℕ
-  chosen = cond (not k) 0 (cond x 16 (cond y 32 (cond (not p) 48 (cond m (cond a 160 (cond n 144 (cond b 128 112))) (cond a 96 (cond n 80 64))))))
+  chosen = cond (not k) 0 (cond x 19 (cond y 38 (cond (not p) 57 (cond m (cond a 190 (cond n 171 (cond b 152 133))) (cond a 114 (cond n 95 76))))))
 
-phase-cases : (k x y p m a n b : Bool) → (leb unbroken (chosen k x y p m a n b) ≡ (k && not (x || y))) × (leb (chosen k x y p m a n b) 160 ≡ true)
+phase-cases : (k x y p m a n b : Bool) → (leb unbroken (chosen k x y p m a n b) ≡ (k && not (x || y))) × (leb (chosen k x y p m a n b) 190 ≡ true)
 phase-cases false x y p m a n b = (refl, refl)
 phase-cases true true y p m a n b = (refl, refl)
 phase-cases true false true p m a n b = (refl, refl)
@@ -100,15 +100,15 @@ unfolding phaseOf
 phase-unbroken s =
     phase-cases (s .kept) (eqb (s .last) 11) (eqb (s .last) 13) (plainNumber (s .last)) (s .met) (s .astray) (s .nine) (s .begun) .0
 
-phase-le : (s : Seen) → phaseOf s ≤ 160
+phase-le : (s : Seen) → phaseOf s ≤ 190
 unfolding phaseOf
 phase-le s =
-    leb-true _ 160 (phase-cases (s .kept) (eqb (s .last) 11) (eqb (s .last) 13) (plainNumber (s .last)) (s .met) (s .astray) (s .nine) (s .begun) .1)
+    leb-true _ 190 (phase-cases (s .kept) (eqb (s .last) 11) (eqb (s .last) 13) (plainNumber (s .last)) (s .met) (s .astray) (s .nine) (s .begun) .1)
 
 -- One role further is one step of the table: from what can be seen by each column, and then by each byte.
 entry-at : (s : Seen) (c : ℕ) → c < columns → getD machine (phaseOf s + c) 0 ≡ entry (phaseOf s + c)
 unfolding machine
-entry-at s c l = getD-upTo entry 272 (phaseOf s + c) (omega (arith, phase-le s))
+entry-at s c l = getD-upTo entry 285 (phaseOf s + c) (omega (arith, phase-le s))
 
 abbrev Step : Seen → ℕ → ℕ → Type 0
 Step s c r = (getD machine (phaseOf s + c) 0 ≡ phaseOf (seenNext s r)) × (sane (seenNext s r) ≡ true)

@@ -76,34 +76,34 @@ columnOf r = cond (ltb r roleLimit) r roleLimit
 -- The phase: where its row begins. From `unbroken` on no rule is broken and no mark broken off; before come a broken rule and the first letters of
 -- the marks.
 abbrev pub unbroken : ℕ
-unbroken = 48
+unbroken = 57
 
 unfoldable pub phaseOf : Seen → ℕ
 phaseOf s =
     cond (not (s .kept)) 0
-    (cond (eqb (s .last) 11) 16
-    (cond (eqb (s .last) 13) 32
-    (cond (not (plainNumber (s .last))) 48
-    (cond (s .met) (cond (s .astray) 160 (cond (s .nine) 144 (cond (s .begun) 128 112))) (cond (s .astray) 96 (cond (s .nine) 80 64))))))
+    (cond (eqb (s .last) 11) 19
+    (cond (eqb (s .last) 13) 38
+    (cond (not (plainNumber (s .last))) 57
+    (cond (s .met) (cond (s .astray) 190 (cond (s .nine) 171 (cond (s .begun) 152 133))) (cond (s .astray) 114 (cond (s .nine) 95 76))))))
 
 -- What a phase stands for: all that has been seen and leads there leaves the same to ask.
 unfoldable pub seenAt : ℕ → Seen
 seenAt p = record {
   kept = not (eqb p 0);
-  last = cond (eqb p 16) 11 (cond (eqb p 32) 13 (cond (eqb p 48) 12 0));
-  met = leb 112 p;
-  begun = eqb p 80 || (eqb p 96 || leb 128 p);
-  astray = eqb p 96 || eqb p 160;
-  nine = eqb p 80 || (eqb p 96 || eqb p 144);
+  last = cond (eqb p 19) 11 (cond (eqb p 38) 13 (cond (eqb p 57) 12 0));
+  met = leb 133 p;
+  begun = eqb p 95 || (eqb p 114 || leb 152 p);
+  astray = eqb p 114 || eqb p 190;
+  nine = eqb p 95 || (eqb p 114 || eqb p 171);
 }
 
--- The table, row by row: where a role leads from what the row's phase stands for. No row begins past 160; behind its row the table goes on with
+-- The table, row by row: where a role leads from what the row's phase stands for. No row begins past 190; behind its row the table goes on with
 -- zeros, so that a step from any byte stays inside.
 unfoldable pub entry : ℕ → ℕ
-entry k = cond (leb k 175) (phaseOf (seenNext (seenAt (k / columns * columns)) (k % columns))) 0
+entry k = cond (leb k 208) (phaseOf (seenNext (seenAt (k / columns * columns)) (k % columns))) 0
 
 unfoldable pub machine : List ℕ
-machine = upTo 272 entry
+machine = upTo 285 entry
 
 -- five counts in one sum, each below 128: digits, suppressible digits, signs, $, and first drifting symbols
 abbrev pub summed : ℕ → ℕ → ℕ → ℕ → ℕ → ℕ

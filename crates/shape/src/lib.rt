@@ -20,7 +20,7 @@ const LAST_KIND: u8 = 6;
 const MOST_DIGITS: u64 = Picture::MOST_DIGITS as u64;
 
 // From this phase on no rule is broken and no mark broken off.
-const UNBROKEN: usize = 48;
+const UNBROKEN: usize = 57;
 
 // What a walk over roles found.
 struct Walked {
@@ -38,12 +38,12 @@ pub struct Judged {
 
 // The column of a role; bytes that are no role share the last.
 fn column(role: u8) -> usize
-    ensures { λ r. ⌜ (r ≡ columnOf role) × (r < 16) ⌝ }
+    ensures { λ r. ⌜ (r ≡ columnOf role) × (r < 19) ⌝ }
 {
-    if role < 15 {
+    if role < 18 {
         return role as usize;
     }
-    15
+    18
 }
 
 fn wide(phase: u8) -> usize
@@ -59,7 +59,7 @@ fn wide_weight(weight: u32) -> u64
 }
 
 // One table step and one weight a role.
-fn walk(next: &[u8; 272], weight: &[u32; 16], roles: &[u8], from: Walked) -> Walked
+fn walk(next: &[u8; 285], weight: &[u32; 19], roles: &[u8], from: Walked) -> Walked
     requires { ⌜ (from .phase < 256) × (from .sum + 4294967296 * length (now roles) < 18446744073709551616) ⌝ }
     ensures { λ r. ⌜ (r ≡ walkedAll (now (next .entry)) (now (weight .entry)) from (now (roles .entry))) × (r .phase < 256) × (r .sum ≤ from .sum + 4294967296 * length (now (roles .entry))) ⌝ }
 {
@@ -78,21 +78,21 @@ fn start(kind: u8) -> Walked
     ensures { λ r. ⌜ (r ≡ started kind) × (r .phase < 256) × (r .sum < 4294967296) ⌝ }
 {
     if kind <= 2 {
-        return Walked { phase: 112, sum: 0 };
+        return Walked { phase: 133, sum: 0 };
     }
     if kind <= 5 {
         return Walked {
-            phase: 64,
+            phase: 76,
             sum: 16384,
         };
     }
     if kind == 6 {
         return Walked {
-            phase: 64,
+            phase: 76,
             sum: 2097152,
         };
     }
-    Walked { phase: 64, sum: 0 }
+    Walked { phase: 76, sum: 0 }
 }
 
 // Some digit is suppressible exactly when the kind says so.
@@ -125,7 +125,7 @@ fn find(kind: u8, at: Walked, end: Walked) -> Judged
 
 // What the pass by these tables finds of the form with these roles, V's place and kind. The tables are lent, so that they are
 // copied once for many forms; by those of tables.rt it finds what the rules say (proofs/Found.antt).
-pub fn judge_by(next: &[u8; 272], weight: &[u32; 16], roles: &[u8], vee: usize, kind: u8) -> Judged
+pub fn judge_by(next: &[u8; 285], weight: &[u32; 19], roles: &[u8], vee: usize, kind: u8) -> Judged
     ensures { λ r. ⌜ r ≡ foundBy (now (next .entry)) (now (weight .entry)) (formed (now (roles .entry)) vee kind) ⌝ }
 {
     let n = roles.len();
@@ -165,7 +165,7 @@ fn fits_room(n: usize, vee: usize) -> bool
 
 // Whether the pass by these tables takes the form for that of an accepted picture. A kind of its own, judged by other rules, has
 // its place behind the first test.
-pub fn is_good_by(next: &[u8; 272], weight: &[u32; 16], roles: &[u8], vee: usize, kind: u8) -> bool
+pub fn is_good_by(next: &[u8; 285], weight: &[u32; 19], roles: &[u8], vee: usize, kind: u8) -> bool
     ensures { λ r. ⌜ r ≡ goodBy (now (next .entry)) (now (weight .entry)) (formed (now (roles .entry)) vee kind) ⌝ }
 {
     if LAST_KIND < kind {

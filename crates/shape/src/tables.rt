@@ -2,11 +2,12 @@
 ghost use mathlib.Core.Path.{_≡_};
 ghost use Rattle.shape.specs.Machine.{machine, weights};
 
-// The phase behind each role: a row for each phase, named by where it begins, and in it a column for each role, as the row of 112
+// The phase behind each role: a row for each phase, named by where it begins, and in it a column for each role, as the row of 133
 // names them. The columns are all taken: a role more widens every row, so that every phase gets another number, here, in `start`
-// and UNBROKEN and in the rule's definition, and it has a number in WEIGHT. A phase is a byte, so a row has room for 23 columns. No
-// row begins past 160; the zeros behind its row are there so that a step from any byte stays inside the table.
-const NEXT: [u8; 272] = [
+// and UNBROKEN and in the rule's definition, and it has a number in WEIGHT. A phase is a byte and no row may begin past 255, so the
+// 11 rows have room for 25 columns each. No row begins past 190; the zeros behind its row are there so that a step from any byte
+// stays inside the table.
+const NEXT: [u8; 285] = [
     // 0: a rule is broken
     0,
     0,
@@ -24,7 +25,10 @@ const NEXT: [u8; 272] = [
     0,
     0,
     0,
-    // 16: behind C of a mark
+    0,
+    0,
+    0,
+    // 19: behind C of a mark
     0,
     0,
     0,
@@ -37,30 +41,14 @@ const NEXT: [u8; 272] = [
     0,
     0,
     0,
-    48,
-    0,
-    0,
-    0,
-    // 32: behind D of a mark
+    57,
     0,
     0,
     0,
     0,
     0,
     0,
-    0,
-    0,
-    0,
-    0,
-    0,
-    0,
-    0,
-    0,
-    48,
-    0,
-    // 48: behind a whole mark
-    0,
-    0,
+    // 38: behind D of a mark
     0,
     0,
     0,
@@ -75,123 +63,169 @@ const NEXT: [u8; 272] = [
     0,
     0,
     0,
-    // 64: nothing begun, the first drifting symbol to come
-    80,
-    0,
-    128,
-    64,
-    64,
-    64,
-    64,
-    64,
-    64,
-    64,
-    64,
-    16,
-    0,
-    32,
+    57,
     0,
     0,
-    // 80: a nine, the first drifting symbol to come
-    80,
-    0,
-    144,
-    96,
-    96,
-    96,
-    96,
-    80,
-    80,
-    80,
-    80,
-    16,
-    0,
-    32,
     0,
     0,
-    // 96: a static symbol behind a nine, the first drifting symbol to come
+    // 57: behind a whole mark
     0,
     0,
-    160,
-    96,
-    96,
-    96,
-    96,
-    96,
-    96,
-    96,
-    96,
-    16,
-    0,
-    32,
     0,
     0,
-    // 112: nothing begun
-    144, // nine
-    128, // suppressible digit
+    0,
+    0,
+    0,
+    0,
+    0,
+    0,
+    0,
+    0,
+    0,
+    0,
+    0,
+    0,
+    0,
+    0,
+    0,
+    // 76: nothing begun, the first drifting symbol to come
+    95,
+    0,
+    152,
+    76,
+    76,
+    76,
+    76,
+    76,
+    76,
+    76,
+    76,
+    19,
+    0,
+    38,
+    0,
+    95,
+    95,
+    95,
+    0,
+    // 95: a nine, the first drifting symbol to come
+    95,
+    0,
+    171,
+    114,
+    114,
+    114,
+    114,
+    95,
+    95,
+    95,
+    95,
+    19,
+    0,
+    38,
+    0,
+    95,
+    95,
+    95,
+    0,
+    // 114: a static symbol behind a nine, the first drifting symbol to come
+    0,
+    0,
+    190,
+    114,
+    114,
+    114,
+    114,
+    114,
+    114,
+    114,
+    114,
+    19,
+    0,
+    38,
+    0,
+    0,
+    0,
+    0,
+    0,
+    // 133: nothing begun
+    171, // 9
+    152, // suppressible digit
     0, // first drifting symbol
-    112, // static S
-    112, // static +
-    112, // static -
-    112, // static $
-    112, // comma
-    112, // period
-    112, // slash
-    112, // B
-    16, // C
-    0, // R
-    32, // D
+    133, // static S
+    133, // static +
+    133, // static -
+    133, // static $
+    133, // comma
+    133, // period
+    133, // slash
+    133, // B
+    19, // C
+    0, // R of the credit mark
+    38, // D
     0, // B of the debit mark
+    171, // T
+    171, // I
+    171, // R
     0, // no role
-    // 128: begun, no nine
-    144,
-    128,
+    // 152: begun, no nine
+    171,
+    152,
     0,
-    160,
-    160,
-    160,
-    160,
-    128,
-    128,
-    128,
-    128,
-    16,
+    190,
+    190,
+    190,
+    190,
+    152,
+    152,
+    152,
+    152,
+    19,
     0,
-    32,
+    38,
     0,
+    171,
+    171,
+    171,
     0,
-    // 144: a nine
-    144,
-    0,
-    0,
-    160,
-    160,
-    160,
-    160, // a static $ behind a nine
-    144,
-    144,
-    144,
-    144,
-    16,
-    0,
-    32,
+    // 171: a nine
+    171,
     0,
     0,
-    // 160: a static symbol behind a digit
+    190,
+    190,
+    190,
+    190, // a static $ behind a nine
+    171,
+    171,
+    171,
+    171,
+    19,
+    0,
+    38,
+    0,
+    171,
+    171,
+    171,
+    0,
+    // 190: a static symbol behind a digit
     0, // no digit follows any more
     0,
     0,
-    160,
-    160,
-    160,
-    160,
-    160,
-    160,
-    160,
-    160,
-    16,
+    190,
+    190,
+    190,
+    190,
+    190,
+    190,
+    190,
+    190,
+    19,
     0,
-    32,
+    38,
+    0,
+    0,
+    0,
     0,
     0,
     // no row
@@ -271,30 +305,11 @@ const NEXT: [u8; 272] = [
     0,
     0,
     0,
-    0,
-    0,
-    0,
-    0,
-    0,
-    0,
-    0,
-    0,
-    0,
-    0,
-    0,
-    0,
-    0,
-    0,
-    0,
-    0,
-    0,
-    0,
-    0,
-    0,
 ];
 
 // 1 for a digit, 128 more for a suppressible one, 16,384 for a sign, 2,097,152 for a $, 268,435,456 for the first drifting symbol.
-const WEIGHT: [u32; 16] = [
+// A punched sign is a digit too.
+const WEIGHT: [u32; 19] = [
     1,
     129,
     268435456,
@@ -310,16 +325,19 @@ const WEIGHT: [u32; 16] = [
     0,
     16384,
     0,
-    0,
+    16385, // T
+    16385, // I
+    16385, // R
+    16385, // no role, which the machine refuses
 ];
 
-pub fn next_table() -> [u8; 272]
+pub fn next_table() -> [u8; 285]
     ensures { λ r. ⌜ r ≡ machine ⌝ }
 {
     NEXT
 }
 
-pub fn weight_table() -> [u32; 16]
+pub fn weight_table() -> [u32; 19]
     ensures { λ r. ⌜ r ≡ weights ⌝ }
 {
     WEIGHT

@@ -8,11 +8,11 @@ use Rattle.shape.proofs.column.Tie as tie
 
 returns : tie.Need-returns
 unfolding columnOf
-returns c = rw (lt-ltb (c .before .args .role) 15 (omega arith)) (refl, omega arith)
+returns c = rw (lt-ltb (c .before .args .role) 18 (omega arith)) (refl, omega arith)
 
 returns-2 : tie.Need-returns-2
 unfolding columnOf
-returns-2 c = rw (le-ltb (c .before .args .role) 15 (omega arith)) (refl, omega arith)
+returns-2 c = rw (le-ltb (c .before .args .role) 18 (omega arith)) (refl, omega arith)
 
 pub column-spec : {M : Type 1} → statement M
 column-spec = tie.close (tie.spec returns returns-2)
