@@ -3,7 +3,9 @@ use super::Field;
 use super::stretch::Stretch;
 use super::stretch::digit_at;
 use roles::digits_at;
-use roles::is_digit;
+use roles::figures::digit_char;
+use roles::is_bare;
+use roles::is_punched;
 use roles::marks::fill_of;
 use roles::marks::mark_of;
 use rules::Picture;
@@ -27,7 +29,7 @@ fn is_inside(stretch: Stretch, k: usize) -> bool
     false
 }
 
-// The character at position k, which has this role and the digit d.
+// The character at position k, which has this role and the digit d. A bare digit goes round the lists, since most digits are bare.
 fn cell_of(kind: u8, role: u8, stretch: Stretch, k: usize, negative: bool, d: u8) -> u8
     requires { ⌜ d < 10 ⌝ }
     ensures { λ r. ⌜ r ≡ cell kind role (isInside stretch k) (eqb k (stretch .spot)) negative d ⌝ }
@@ -38,8 +40,11 @@ fn cell_of(kind: u8, role: u8, stretch: Stretch, k: usize, negative: bool, d: u8
         }
         return fill_of(kind);
     }
-    if is_digit(role) {
+    if is_bare(role) {
         return b'0' + d;
+    }
+    if is_punched(role) {
+        return digit_char(role, negative, d);
     }
     mark_of(role, negative)
 }

@@ -1,6 +1,6 @@
 -- Reading in one pass. A position that prints takes what has been said one step further, and one of the stretch leaves it as it is, so that
 -- at the end all that prints has been asked; with what `hide` found of the stretch that is the whole field, place by place. Where printing
--- starts is never searched for: as long as it hasn't started the value is 0, and the next digit tells. Where a digit that prints is none the
+-- starts is never searched for: as long as it hasn't started the value is 0, and the next digit tells. Where a bare digit that prints is none the
 -- cells aren't the field, so that it is 0's, everything suppressed, or no value's. Assumes nothing.
 use mathlib.Core.Path.{_≡_, refl, sym, _∙_}
 use mathlib.Core.Bool.{Bool, true, false, not, _&&_, _||_, true≢false, and-assoc, and-false, and-self, and-true, or-true}
@@ -14,24 +14,25 @@ use borrow.Author.Tests.{eq-eqb, eqb-false, eqb-true, le-leb, le-ltb, leb-false,
 use lib.Dec.{eqb, leb, ltb}
 use lib.ListN.{length, getD, take, drop, length-take}
 use lib.Seq.{take-length, take-suc}
-use Rattle.rules.specs.Words.{any, count, same}
-use Rattle.rules.specs.Search.{upTo}
+use Rattle.rules.specs.Words.{any, count, place, same}
+use Rattle.rules.specs.Search.{each, first, upTo}
 use Rattle.rules.specs.Digits.{valueOf}
 use Rattle.rules.specs.Text.{isDecimal}
-use Rattle.rules.specs.Roles.{drifts, isDigit, isFirstDrifting, isNine, isSuppressible, opens}
+use Rattle.rules.specs.Roles.{drifts, isBare, isDigit, isFirstDrifting, isNine, isSuppressible, opens}
 use Rattle.rules.specs.Form.{Form, roleAt, size}
 use Rattle.rules.specs.Shape.{digitCount, mostDigits}
-use Rattle.rules.specs.Edit.{allSuppressible, cell, cellAt, digitAt, digitChar, driftsTo, field, fill, inStretch, isBlank, mark, opening, printed, suppressed}
+use Rattle.rules.specs.Edit.{allSuppressible, cell, cellAt, digitAt, driftsTo, field, fill, inStretch, isBlank, mark, opening, printed, suppressed}
 use Rattle.rules.specs.Candidate.{digitIn, readOf, shown, shownIn, worthOf}
+use Rattle.rules.proofs.Characters.{digit-small, printed-bare}
 use Rattle.rules.proofs.Digits.{ten-le, ten-pos, value-digits, value-snoc}
 use Rattle.rules.proofs.Exact.{shown-small}
 use Rattle.rules.proofs.Fields.{field-blank, field-cells, shown-field, tail-at}
 use Rattle.rules.proofs.Lists.{same-eq}
 use Rattle.rules.proofs.Logic.{both, by-test, eqb-swap, neither}
-use Rattle.rules.proofs.Search.{first-least, length-upTo}
+use Rattle.rules.proofs.Search.{each-at, first-least, length-upTo}
 use Rattle.rules.proofs.Stretch.{early, stretch-from, stretch-in, stretch-to}
 use Rattle.fieldread.specs.declared.zones.Said.{Said}
-use Rattle.fieldread.specs.Zones.{Ahead, Filled, Hides, Led, Stopped, digitStep, fineAt, hasDrift, isFine, markStep, markedAt, saidAt, saidIn, sidesOf, soFar, startIn, valueTo, within}
+use Rattle.fieldread.specs.Zones.{Ahead, Filled, Hides, Led, Stopped, digitStep, fineAt, hasDrift, isFine, markStep, markedAt, printStep, saidAt, saidIn, sidesOf, soFar, startIn, valueTo, within}
 use Rattle.fieldread.proofs.Cases.{reads-other, reads-zero}
 use Rattle.field.proofs.Loops.{count-part, counted, counted-digit, counted-le, counted-nine, counted-other, counted-zero, opening-here, opening-more, shown-more, shown-same, start-counted}
 use Rattle.field.proofs.Whole.{worth-digits}
@@ -92,15 +93,32 @@ same-places : (g : ℕ → ℕ) (f : List ℕ) (n : ℕ) → length f ≡ n → 
 same-places g f n l = let t : take n f ≡ f = rw (← l) (take-length f) in rw t at (same-part g f n (omega arith))
 
 -- Characters and roles.
+decimal-worth : (d : ℕ) → d < 10 → digitIn (48 + d) ≡ d
+unfolding digitIn place first each
+decimal-worth d l = eqb-true (digitIn (48 + d)) d (each-at (λ j. eqb (digitIn (48 + j)) j) 10 d refl l)
+
 figure-is : (c : ℕ) → eqb (48 + digitIn c) c ≡ isDecimal c
-unfolding digitIn
 figure-is c =
-    by-test (leb 48 c && leb c 57)
-    (λ e. let l = leb-true 48 c (both (leb 48 c) _ e .0) in rw e (eq-eqb (48 + (c - 48)) c (omega arith)))
-    (λ e. rw e (ne-eqb 48 c (λ q. absurd (true≢false (sym (rw (le-leb 48 c (omega arith), le-leb c 57 (omega arith))) ∙ e)))))
+    by-test (isDecimal c)
+    (λ e.
+    let w = both (leb 48 c) (leb c 57) e in
+    let z : 48 + (c - 48) ≡ c = omega (arith, leb-true 48 c (w .0)) in
+    let d = rw z at (decimal-worth (c - 48) (omega (arith, leb-true c 57 (w .1)))) in
+    rw e (eq-eqb (48 + digitIn c) c (omega arith)))
+    (λ e. rw e (ne-eqb (48 + digitIn c) c (λ q.
+    let s = digit-small c in
+    true≢false (sym (rw (le-leb 48 c (omega arith), le-leb c 57 (omega arith))) ∙ e))))
+
+bare-digit : (r : ℕ) → isBare r ≡ true → isDigit r ≡ true
+unfolding isBare
+bare-digit r e = both (isDigit r) _ e .0
+
+mark-bare : (r : ℕ) → isDigit r ≡ false → isBare r ≡ false
+unfolding isBare
+mark-bare r d = rw d
 
 fill-worth : (kind : ℕ) → digitIn (fill kind) ≡ 0
-unfolding fill digitIn
+unfolding fill digitIn place
 fill-worth kind = by-test (eqb kind 2) (λ e. rw e) (λ e. rw e)
 
 -- the digit shown at a digit's position is that of the character there
@@ -141,13 +159,20 @@ module _ (φ : Form) (f : List ℕ) where
 
   -- outside the stretch
   module _ (k : ℕ) (s t : Said) (h : k < size φ) (w : within φ f k ≡ false) (e : s ≡ saidAt φ f k) where
-    pub said-digit : isDigit (roleAt φ k) ≡ true → t ≡ digitStep s (getD f k 0) → t ≡ saidAt φ f (k + 1)
+    pub said-digit : isBare (roleAt φ k) ≡ true → t ≡ digitStep s (getD f k 0) → t ≡ saidAt φ f (k + 1)
     unfolding saidAt digitStep soFar markedAt
-    said-digit d q = rw (q, e, value-digit k h d, add-one k, w, d, and-true (soFar (markedAt φ f false) k), and-true (soFar (markedAt φ f true) k))
+    said-digit b q = rw (q, e, value-digit k h (bare-digit _ b), add-one k, w, b, and-true (soFar (markedAt φ f false) k), and-true (soFar (markedAt φ f true) k))
+
+    pub said-other : isBare (roleAt φ k) ≡ false → t ≡ printStep s (roleAt φ k) (getD f k 0) → t ≡ saidAt φ f (k + 1)
+    unfolding saidAt printStep soFar markedAt
+    said-other b q =
+        by-test (isDigit (roleAt φ k))
+        (λ d. rw (q, e, value-digit k h d, add-one k, w, b, d))
+        (λ d. rw (q, e, value-mark k h d, add-one k, w, b, d))
 
     pub said-mark : isDigit (roleAt φ k) ≡ false → t ≡ markStep s (roleAt φ k) (getD f k 0) → t ≡ saidAt φ f (k + 1)
-    unfolding saidAt markStep soFar markedAt
-    said-mark d q = rw (q, e, value-mark k h d, add-one k, w, d)
+    unfolding markStep printStep printed
+    said-mark d q = said-other (mark-bare _ d) (rw (q, d))
 
   -- inside it
   said-in : (k : ℕ) → within φ f k ≡ true → valueTo φ f k ≡ 0 → valueTo φ f (k + 1) ≡ 0 → saidAt φ f k ≡ saidAt φ f (k + 1)
@@ -276,7 +301,7 @@ module _ (φ : Form) (f : List ℕ) where
             kept = kept-on l;
           }
 
-  -- The last zone: a digit before it is no nine and so of the stretch, and from there on each has to be one.
+  -- The last zone: a digit before it is no nine and so of the stretch, and from there on each bare one has to be one.
   fine-early : (k : ℕ) → k < startIn φ f → fineAt φ f k ≡ true
   unfolding fineAt opening
   fine-early k l =
@@ -284,20 +309,20 @@ module _ (φ : Form) (f : List ℕ) where
       (λ d. by-test (opens (roleAt φ k))
       (λ o. rw (stretch-in φ (shown φ f) k (first-least (λ j. opens (roleAt φ j)) (size φ) k o) l))
       (λ o. absurd (true≢false (sym d ∙ no-digit _ (rw (early φ (shown φ f) k l d .1) o)))))
-      (λ d. rw (d, or-true (within φ f k)))
+      (λ d. rw (mark-bare _ d, or-true (within φ f k)))
 
   pub fine-first : (k : ℕ) → startIn φ f ≡ k → soFar (fineAt φ f) k ≡ true
   fine-first k s = so-true _ k (λ j l. fine-early j (omega arith))
 
   pub fine-digit : (k : ℕ) → isDecimal (getD f k 0) ≡ true → soFar (fineAt φ f) k ≡ true → soFar (fineAt φ f) (k + 1) ≡ true
   unfolding soFar fineAt
-  fine-digit k c e = rw (add-one k, e, c, or-true (within φ f k || not (isDigit (roleAt φ k))))
+  fine-digit k c e = rw (add-one k, e, c, or-true (within φ f k || not (isBare (roleAt φ k))))
 
-  pub fine-mark : (k : ℕ) → isDigit (roleAt φ k) ≡ false → soFar (fineAt φ f) k ≡ true → soFar (fineAt φ f) (k + 1) ≡ true
+  pub fine-other : (k : ℕ) → isBare (roleAt φ k) ≡ false → soFar (fineAt φ f) k ≡ true → soFar (fineAt φ f) (k + 1) ≡ true
   unfolding soFar fineAt
-  fine-mark k d e = rw (add-one k, e, d, or-true (within φ f k))
+  fine-other k b e = rw (add-one k, e, b, or-true (within φ f k))
 
-  pub said-none : (k : ℕ) → startIn φ f ≤ k → k < size φ → isDigit (roleAt φ k) ≡ true → isDecimal (getD f k 0) ≡ false → record { value = 0; plus = false; minus = false } ≡ saidIn φ f
+  pub said-none : (k : ℕ) → startIn φ f ≤ k → k < size φ → isBare (roleAt φ k) ≡ true → isDecimal (getD f k 0) ≡ false → record { value = 0; plus = false; minus = false } ≡ saidIn φ f
   unfolding saidIn fineAt
   said-none k s h d c = rw (so-false (fineAt φ f) (size φ) k h (rw (out-late k s, d, c)))
 
@@ -315,13 +340,12 @@ module _ (φ : Form) (f : List ℕ) where
     unfolding cellAt cell
     cell-drift i d = rw (i, d)
 
-    cell-digit : within φ f k ≡ false → k < size φ → isDigit (roleAt φ k) ≡ true → cellAt φ (shown φ f) negative k ≡ 48 + digitIn (getD f k 0)
-    unfolding cellAt cell printed digitChar digitAt
-    cell-digit i h e = rw (i, e, shown-at (φ .roles) f k h e)
+    cell-printed : within φ f k ≡ false → k < size φ → cellAt φ (shown φ f) negative k ≡ printed (roleAt φ k) negative (digitIn (getD f k 0))
+    unfolding cellAt cell printed digitAt
+    cell-printed i h = by-test (isDigit (roleAt φ k)) (λ e. rw (i, e, shown-at (φ .roles) f k h e)) (λ e. rw (i, e))
 
-    cell-mark : within φ f k ≡ false → isDigit (roleAt φ k) ≡ false → cellAt φ (shown φ f) negative k ≡ mark (roleAt φ k) negative
-    unfolding cellAt cell printed
-    cell-mark i e = rw (i, e)
+    cell-bare : within φ f k ≡ false → k < size φ → isBare (roleAt φ k) ≡ true → eqb (cellAt φ (shown φ f) negative k) (getD f k 0) ≡ isDecimal (getD f k 0)
+    cell-bare i h b = rw (cell-printed i h, printed-bare (roleAt φ k) negative (digitIn (getD f k 0)) b (digit-small (getD f k 0))) (figure-is (getD f k 0))
 
     -- the drifting character, if it has its place here
     unfoldable drifted : Bool
@@ -347,9 +371,9 @@ module _ (φ : Form) (f : List ℕ) where
         (λ i. by-test (hasDrift φ f k)
         (λ d. rw (cell-drift i d, i, d) (eqb-swap (mark (φ .kind) negative) (getD f k 0)))
         (λ d. rw (cell-fill i d, i, d) (eq-eqb _ _ (sym (g i d)))))
-        (λ i. by-test (isDigit (roleAt φ k))
-        (λ e. rw (cell-digit i h e, i, e, figure-is (getD f k 0), and-true (isDecimal (getD f k 0)), and-true (isDecimal (getD f k 0))))
-        (λ e. rw (cell-mark i e, i, e) (eqb-swap (mark (roleAt φ k) negative) (getD f k 0) ∙ sym (and-true _))))
+        (λ i. by-test (isBare (roleAt φ k))
+        (λ b. rw (cell-bare i h b, i, b, and-true (isDecimal (getD f k 0)), and-true (isDecimal (getD f k 0))))
+        (λ b. rw (cell-printed i h, i, b) (eqb-swap _ (getD f k 0) ∙ sym (and-true _))))
 
   -- All places together.
   module _ (long : length f ≡ size φ) where
@@ -457,15 +481,15 @@ module _ (φ : Form) (f : List ℕ) where
     unfolding sidesOf
     minus-some = sides-field true some-shown
 
-  -- a digit that prints and is none is no cell
+  -- a bare digit that prints and is none is no cell
   cell-fine : (negative : Bool) (k : ℕ) → k < size φ → eqb (cellAt φ (shown φ f) negative k) (getD f k 0) ≡ (fineAt φ f k && eqb (cellAt φ (shown φ f) negative k) (getD f k 0))
   unfolding fineAt
   cell-fine negative k h =
       by-test (within φ f k)
       (λ i. rw i)
-      (λ i. by-test (isDigit (roleAt φ k))
-      (λ d. rw (i, d, cell-digit negative k i h d, figure-is (getD f k 0)) (sym (and-self (isDecimal (getD f k 0)))))
-      (λ d. rw (i, d)))
+      (λ i. by-test (isBare (roleAt φ k))
+      (λ b. rw (i, b, cell-bare negative k i h b) (sym (and-self (isDecimal (getD f k 0)))))
+      (λ b. rw (i, b)))
 
   cells-none : length f ≡ size φ → isFine φ f ≡ false → (negative : Bool) → same (upTo (size φ) (λ k. cellAt φ (shown φ f) negative k)) f ≡ false
   cells-none l t negative = same-places _ f (size φ) l ∙ so-same _ _ (size φ) (cell-fine negative) ∙ so-both (fineAt φ f) _ (size φ) ∙ rw t

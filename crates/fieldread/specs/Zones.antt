@@ -11,10 +11,10 @@ use Rattle.rules.specs.Words.{same}
 use Rattle.rules.specs.Search.{upTo}
 use Rattle.rules.specs.Digits.{valueOf}
 use Rattle.rules.specs.Text.{isDecimal}
-use Rattle.rules.specs.Roles.{drifts, isDigit}
+use Rattle.rules.specs.Roles.{drifts, isBare, isDigit}
 use Rattle.rules.specs.Form.{Form, roleAt, size}
 use Rattle.rules.specs.Shape.{digitCount, mostDigits}
-use Rattle.rules.specs.Edit.{cellAt, driftsTo, fill, inStretch, mark, opening, start}
+use Rattle.rules.specs.Edit.{cellAt, driftsTo, fill, inStretch, mark, opening, printed, start}
 use Rattle.rules.specs.Candidate.{digitIn, readOf, shown, shownIn, worthOf}
 use Rattle.fieldread.specs.declared.zones.Said.{Said}
 use Rattle.fieldread.specs.declared.zones.Hidden.{Hidden}
@@ -24,12 +24,19 @@ unfoldable pub soFar : (ℕ → Bool) → ℕ → Bool
 soFar p zero = true
 soFar p (suc k) = soFar p k && p k
 
--- a digit more that prints, and a mark more
-unfoldable pub digitStep : Said → ℕ → Said
-digitStep s c = record { value = s .value * 10 + digitIn c; plus = s .plus; minus = s .minus }
+-- a position more that prints: by the sign, what it shows of the digit that it shows; a mark more; and a bare digit more, whose character is a digit
+unfoldable pub printStep : Said → ℕ → ℕ → Said
+printStep s r c = record {
+  value = cond (isDigit r) (s .value * 10 + digitIn c) (s .value);
+  plus = s .plus && eqb c (printed r false (digitIn c));
+  minus = s .minus && eqb c (printed r true (digitIn c));
+}
 
 unfoldable pub markStep : Said → ℕ → ℕ → Said
 markStep s r c = record { value = s .value; plus = s .plus && eqb c (mark r false); minus = s .minus && eqb c (mark r true) }
+
+unfoldable pub digitStep : Said → ℕ → Said
+digitStep s c = record { value = s .value * 10 + digitIn c; plus = s .plus; minus = s .minus }
 
 module _ (φ : Form) (f : List ℕ) where
   -- where printing starts, by the digits that the whole field shows; which positions are of the stretch; which has the drifting character
@@ -46,21 +53,21 @@ module _ (φ : Form) (f : List ℕ) where
   abbrev pub valueTo : ℕ → ℕ
   valueTo k = valueOf (shownIn (take k (φ .roles)) f)
 
-  -- what is asked of a position that prints: whatever the sign, that a digit shows one; and by the sign, that a mark shows its own
+  -- what is asked of a position that prints: whatever the sign, that a bare digit shows one; and by the sign, that any other shows its own
   unfoldable pub fineAt : ℕ → Bool
-  fineAt k = within k || not (isDigit (roleAt φ k)) || isDecimal (getD f k 0)
+  fineAt k = within k || not (isBare (roleAt φ k)) || isDecimal (getD f k 0)
 
   unfoldable pub markedAt : Bool → ℕ → Bool
-  markedAt negative k = within k || isDigit (roleAt φ k) || eqb (getD f k 0) (mark (roleAt φ k) negative)
+  markedAt negative k = within k || isBare (roleAt φ k) || eqb (getD f k 0) (printed (roleAt φ k) negative (digitIn (getD f k 0)))
 
-  -- each digit that prints is one
+  -- each bare digit that prints is one
   abbrev pub isFine : Bool
   isFine = soFar fineAt (size φ)
 
   unfoldable pub saidAt : ℕ → Said
   saidAt k = record { value = valueTo k; plus = soFar (markedAt false) k; minus = soFar (markedAt true) k }
 
-  -- what all positions say: no value and the marks of neither sign, unless each digit that prints is one
+  -- what all positions say: no value and neither sign, unless each bare digit that prints is one
   unfoldable pub saidIn : Said
   saidIn = record { value = cond isFine (worthOf φ f) 0; plus = isFine && soFar (markedAt false) (size φ); minus = isFine && soFar (markedAt true) (size φ) }
 

@@ -1,5 +1,5 @@
 // The value that has a field: what its digits are worth, with the sign under which the field is that value's. Beside the one pass of
-// zones.rt the roles are looked at only for a nine at the value 0, for a sign where the marks are those of minus, and where there are
+// zones.rt the roles are looked at only for a nine at the value 0, for a sign where what prints is that of minus, and where there are
 // positions enough for too many digits.
 use super::zones::Said;
 use super::zones::compared;

@@ -1,11 +1,14 @@
 // A field in one pass, from left to right. Up to the first suppressible digit or drifting symbol the positions print; from there the
 // fill stands up to where printing starts, a drifting symbol's character last; the rest prints. The value is added up on the way, and
-// marks are compared for plus and for minus side by side.
+// what tells the sign, marks and a punched digit, is compared for plus and for minus side by side.
 use roles::before_vee;
-use roles::digit_in;
 use roles::does_drift;
 use roles::does_open;
-use roles::is_decimal;
+use roles::figures::digit_in;
+use roles::figures::is_decimal;
+use roles::figures::list_in;
+use roles::figures::list_of;
+use roles::is_bare;
 use roles::is_digit;
 use roles::is_nine;
 use roles::marks::fill_of;
@@ -16,10 +19,10 @@ ghost use Prim.Native.Nat.{_≤_, _<_, _^_};
 ghost use lib.Dec.{leb};
 ghost use Rattle.rules.specs.Form.{formed};
 ghost use Rattle.rules.specs.Shape.{mostDigits};
-ghost use Rattle.fieldread.specs.Zones.{digitStep, markStep, saidAt, saidIn, startIn, Led, Filled, Hides, Unfilled, Asked, sidesOf};
+ghost use Rattle.fieldread.specs.Zones.{digitStep, markStep, printStep, saidAt, saidIn, startIn, Led, Filled, Hides, Unfilled, Asked, sidesOf};
 
-// What the positions passed say: the value of their digits, and whether the marks are those of plus and of minus. Positions of the
-// stretch have no part in it.
+// What the positions passed say: the value of their digits, and whether what tells the sign is that of plus and that of minus. Positions
+// of the stretch have no part in it.
 pub(crate) struct Said {
     pub value: u64,
     pub plus: bool,
@@ -40,7 +43,7 @@ pub(crate) struct Hidden {
     pub last: u8,
 }
 
-// A digit more that prints, and a mark more.
+// A bare digit more that prints, a mark more, and a position more of any kind.
 fn print_digit(s: Said, c: u8) -> Said
     requires { ⌜ s .value < 10 ^ mostDigits ⌝ }
     ensures { λ r. ⌜ r ≡ digitStep s c ⌝ }
@@ -61,6 +64,21 @@ fn print_mark(s: Said, role: u8, c: u8) -> Said
         plus: s.plus & (c == mark_of(role, false)),
         minus: s.minus & (c == mark_of(role, true)),
     }
+}
+
+fn print(s: Said, role: u8, c: u8) -> Said
+    requires { ⌜ s .value < 10 ^ mostDigits ⌝ }
+    ensures { λ r. ⌜ r ≡ printStep s role c ⌝ }
+{
+    if is_digit(role) {
+        let list = list_in(c);
+        return Said {
+            value: s.value * 10 + digit_in(c) as u64,
+            plus: s.plus & (list == list_of(role, false)),
+            minus: s.minus & (list == list_of(role, true)),
+        };
+    }
+    print_mark(s, role, c)
 }
 
 // Up to V, the first nine or the opening.
@@ -152,7 +170,7 @@ pub(crate) fn hide(roles: &[u8], vee: usize, kind: u8, field: &[u8], from: usize
     }
 }
 
-// From where printing starts to the end. A digit's position that shows none ends it, with no value and the marks of neither sign: the
+// From where printing starts to the end. A bare digit's position that shows none ends it, with no value and neither sign: the
 // field is then 0's, everything suppressed, or no value's.
 fn rest(roles: &[u8], vee: usize, kind: u8, field: &[u8], from: usize, said: Said) -> Said
     requires { ⌜ Asked (formed (now roles) vee kind) (now field) × (said ≡ saidAt (formed (now roles) vee kind) (now field) from) × (startIn (formed (now roles) vee kind) (now field) ≡ from) ⌝ }
@@ -162,7 +180,7 @@ fn rest(roles: &[u8], vee: usize, kind: u8, field: &[u8], from: usize, said: Sai
     for k in from..roles.len() {
         let role = roles[k];
         let c = field[k];
-        if is_digit(role) {
+        if is_bare(role) {
             if !is_decimal(c) {
                 return Said {
                     value: 0,
@@ -172,7 +190,7 @@ fn rest(roles: &[u8], vee: usize, kind: u8, field: &[u8], from: usize, said: Sai
             }
             s = print_digit(s, c);
         } else {
-            s = print_mark(s, role, c);
+            s = print(s, role, c);
         }
     }
     s

@@ -1,4 +1,4 @@
--- `rest`: printing has started, and each digit so far is one. Assumes nothing.
+-- `rest`: printing has started, and each bare digit so far is one. Assumes nothing.
 use borrow.Author.Needs.{needs}
 use borrow.Author.Tests.{not-false, not-true}
 use mathlib.Core.Path.{_≡_, sym, _∙_}
@@ -9,7 +9,7 @@ use native.Mathlib.Omega.{arith}
 use lib.ListN.{length}
 use Rattle.rules.specs.Form.{formed}
 use Rattle.fieldread.specs.Zones.{fineAt, saidAt, soFar, startIn}
-use Rattle.fieldread.proofs.Passing.{fine-digit, fine-first, fine-mark, out-late, said-all, said-digit, said-mark, said-none, said-small, start-least}
+use Rattle.fieldread.proofs.Passing.{fine-digit, fine-first, fine-other, out-late, said-all, said-digit, said-none, said-other, said-small, start-least}
 use Rattle.fieldread.proofs.zones.rest.Statement.{statement}
 use Rattle.fieldread.proofs.zones.rest.Tie as tie
 
@@ -32,11 +32,16 @@ returns c =
     let at = x .before .before .before .before .before in
     let a = at .before .before .before .args in
     let h : at .loop .k < length (a .roles .now) = omega arith in
-    said-none (formed (a .roles .now) (a .vee) (a .kind)) (a .field .now) _ (at .loop .inv .2) h (sym (x .before .is-digit .ensures) ∙ x .if1 .taken) (sym (c .before .is-decimal .ensures) ∙ not-true _ (c .if2 .taken))
+    said-none (formed (a .roles .now) (a .vee) (a .kind)) (a .field .now) _ (at .loop .inv .2) h (sym (x .before .is-bare .ensures) ∙ x .if1 .taken) (sym (c .before .is-decimal .ensures) ∙ not-true _ (c .if2 .taken))
 
 print-digit-requires : tie.Need-print-digit-requires Inv-loop μ-loop
 print-digit-requires c κs =
     let at = c .before .before .before .before .before .before .before in
+    rw (at .loop .inv .3) (said-small _ _ (at .before .before .before .pre .0 .few) _)
+
+print-requires : tie.Need-print-requires Inv-loop μ-loop
+print-requires c κs =
+    let at = c .before .before .before .before .before in
     rw (at .loop .inv .3) (said-small _ _ (at .before .before .before .pre .0 .few) _)
 
 loop-again : tie.Need-loop-again Inv-loop μ-loop
@@ -49,11 +54,11 @@ loop-again c =
     let g = at .loop .inv .2 in
     let h : k < length (a .roles .now) = omega arith in
     let o = out-late φ f k g in
-    let d = sym (c .before .is-digit .ensures) in
+    let d = sym (c .before .is-bare .ensures) in
     let on : (c .if1 .s ≡ saidAt φ f (k + 1)) × (soFar (fineAt φ f) (k + 1) ≡ true) =
     ⊎-elim
     (λ w. (w .4 ∙ said-digit φ f k _ _ h o (at .loop .inv .3) (d ∙ w .0 .taken) (w .3 .ensures), fine-digit φ f k (sym (w .1 .ensures) ∙ not-false _ (w .2 .left)) (at .loop .inv .4)))
-    (λ w. (w .2 ∙ said-mark φ f k _ _ h o (at .loop .inv .3) (d ∙ w .0 .left) (w .1 .ensures), fine-mark φ f k (d ∙ w .0 .left) (at .loop .inv .4)))
+    (λ w. (w .2 ∙ said-other φ f k _ _ h o (at .loop .inv .3) (d ∙ w .0 .left) (w .1 .ensures), fine-other φ f k (d ∙ w .0 .left) (at .loop .inv .4)))
     (c .if1 .came) in
     (omega arith, at .loop .inv .1, omega (arith, g), on .0, on .1)
 
@@ -76,7 +81,7 @@ rest-spec =
     (λ c κs. search needs)
     returns
     print-digit-requires
-    (λ c κs. search needs)
+    print-requires
     (λ c. search needs)
     (λ c. search needs)
     loop-again
