@@ -10,8 +10,8 @@ use crate::text_to_symbols::Symbol;
 #[derive(Clone, Copy, PartialEq, Eq, Debug)]
 enum Slot {
     Exactly(u8),
-    /// A printed digit, by its number among the digits of the picture.
-    Digit(usize),
+    /// A printed digit, by its number among the digits of the picture, and the characters that stand for 0 to 9.
+    Digit(usize, &'static [u8; 10]),
 }
 
 /// One look of a field in which something is shown.
@@ -64,7 +64,7 @@ fn looks(picture: &Picture) -> Vec<Look> {
 
 /// Where printing can start: at a digit before V that only suppressible ones precede, or at V if only such precede it.
 fn starts(picture: &Picture) -> Vec<usize> {
-    let nine = picture.symbols.iter().position(|&s| s == Symbol::Nine).unwrap_or(picture.symbols.len());
+    let nine = picture.symbols.iter().position(|s| s.is_nine()).unwrap_or(picture.symbols.len());
     let may_precede = |start: &usize| *start <= nine;
     let before_v = picture.digits.iter().copied().filter(|&at| !picture.after_v(at));
     let at_v = picture.v.filter(|_| picture.f() > 0);
@@ -86,7 +86,7 @@ fn slots(picture: &Picture, start: usize, minus: bool) -> Vec<Slot> {
     let mut digit = picture.digits.iter().filter(|&&at| at < start).count();
     for (past, &symbol) in printed.iter().enumerate() {
         if picture.digits.contains(&(start + past)) {
-            slots.push(Slot::Digit(digit));
+            slots.push(Slot::Digit(digit, figures(symbol, minus)));
             digit += 1;
         } else {
             slots.extend(sight(symbol, minus).iter().map(|&c| Slot::Exactly(c)));
@@ -109,7 +109,25 @@ fn sight(symbol: Symbol, minus: bool) -> &'static [u8] {
         Symbol::Slash => (b"/", b"/"),
         Symbol::B => (b" ", b" "),
         Symbol::V => (b"", b""),
-        Symbol::Nine | Symbol::Z | Symbol::Star => unreachable!("a digit has no fixed character"),
+        Symbol::Nine | Symbol::Z | Symbol::Star | Symbol::T | Symbol::I | Symbol::R => {
+            unreachable!("a digit has no fixed character")
+        }
+    };
+    if minus {
+        minus_form
+    } else {
+        plus_form
+    }
+}
+
+/// The characters under which a digit symbol is seen, from that of 0 to that of 9.
+fn figures(symbol: Symbol, minus: bool) -> &'static [u8; 10] {
+    let (plain, with_plus, with_minus) = (b"0123456789", b"{ABCDEFGHI", b"}JKLMNOPQR");
+    let (plus_form, minus_form) = match symbol {
+        Symbol::T => (with_plus, with_minus),
+        Symbol::I => (with_plus, plain),
+        Symbol::R => (plain, with_minus),
+        _ => (plain, plain),
     };
     if minus {
         minus_form
@@ -127,8 +145,8 @@ fn seen(picture: &Picture, look: &Look, field: &[u8]) -> Option<i64> {
     for (&slot, &byte) in look.slots.iter().zip(field) {
         match slot {
             Slot::Exactly(character) if byte == character => {}
-            Slot::Digit(k) if byte.is_ascii_digit() => digits[k] = i64::from(byte - b'0'),
-            _ => return None,
+            Slot::Exactly(_) => return None,
+            Slot::Digit(k, figures) => digits[k] = figures.iter().position(|&figure| figure == byte)? as i64,
         }
     }
     let t = digits.iter().fold(0, |t, digit| t * 10 + digit);

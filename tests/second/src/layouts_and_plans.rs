@@ -68,6 +68,9 @@ fn position_bytes(picture: &Picture) -> Vec<u8> {
         let position: &[u8] = match symbol {
             Symbol::V => &[],
             Symbol::Nine => &[0],
+            Symbol::T => &[15],
+            Symbol::I => &[16],
+            Symbol::R => &[17],
             _ if digit => &[1],
             _ if drifts => &[2],
             Symbol::S => &[3],
@@ -119,13 +122,13 @@ pub fn rebuilt_layout(bytes: &[u8]) -> Option<Vec<u8>> {
     Some(layout)
 }
 
-/// The letter that a position byte stands for in a field of this kind.
+/// The letter that a position byte stands for in a field of this kind. R is that of two bytes; compiling tells which is right.
 fn letter(position: u8, kind: u8) -> Option<u8> {
     let suppressible = *b" Z*S+-$".get(usize::from(kind))?;
     match position {
         1 | 2 if kind == 0 => None,
         1 | 2 => Some(suppressible),
-        _ => b"9  S+-$,./BCRDB".get(usize::from(position)).copied(),
+        _ => b"9  S+-$,./BCRDBTIR".get(usize::from(position)).copied(),
     }
 }
 

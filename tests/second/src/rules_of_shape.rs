@@ -5,7 +5,8 @@ use crate::numbers_that_come_back::{Answer, Refusal};
 use crate::text_to_symbols::{symbols_of, Symbol};
 
 const DRIFTERS: [Symbol; 4] = [Symbol::S, Symbol::Plus, Symbol::Minus, Symbol::Dollar];
-const SIGNS: [Symbol; 5] = [Symbol::S, Symbol::Plus, Symbol::Minus, Symbol::Credit, Symbol::Debit];
+const SIGNS: [Symbol; 8] =
+    [Symbol::S, Symbol::Plus, Symbol::Minus, Symbol::Credit, Symbol::Debit, Symbol::T, Symbol::I, Symbol::R];
 
 /// An accepted picture.
 #[derive(Clone, Debug)]
@@ -60,7 +61,7 @@ impl Picture {
 
     /// Whether the digit at this place is a Z, a * or a drifting one.
     pub fn suppressible(&self, at: usize) -> bool {
-        self.symbols[at] != Symbol::Nine
+        !self.symbols[at].is_nine()
     }
 
     pub fn every_digit_suppressible(&self) -> bool {
@@ -97,12 +98,17 @@ fn well_shaped(s: &[Symbol]) -> bool {
         && no_suppressible_digit_follows_a_nine(s)
         && behind_v_all_or_none(s)
         && at_most_one_kind_of_sign(s)
+        && at_most_one_punched_digit(s)
         && static_symbols_outside(s)
         && v_not_before_drift(s)
 }
 
 fn times(s: &[Symbol], symbol: Symbol) -> usize {
     s.iter().filter(|&&x| x == symbol).count()
+}
+
+fn has_a_nine(s: &[Symbol]) -> bool {
+    s.iter().any(|symbol| symbol.is_nine())
 }
 
 fn drifting_kinds(s: &[Symbol]) -> Vec<Symbol> {
@@ -129,7 +135,7 @@ fn suppressible_digits(s: &[Symbol]) -> Vec<usize> {
 
 fn digits(s: &[Symbol]) -> Vec<usize> {
     let suppressible = suppressible_digits(s);
-    (0..s.len()).filter(|at| s[*at] == Symbol::Nine || suppressible.contains(at)).collect()
+    (0..s.len()).filter(|at| s[*at].is_nine() || suppressible.contains(at)).collect()
 }
 
 fn at_most_one_v(s: &[Symbol]) -> bool {
@@ -147,17 +153,21 @@ fn suppression_is_of_one_kind(s: &[Symbol]) -> bool {
 }
 
 fn no_suppressible_digit_follows_a_nine(s: &[Symbol]) -> bool {
-    let nine_before = |at: &usize| s[..*at].contains(&Symbol::Nine);
+    let nine_before = |at: &usize| has_a_nine(&s[..*at]);
     !suppressible_digits(s).iter().any(nine_before)
 }
 
 fn behind_v_all_or_none(s: &[Symbol]) -> bool {
     let v_before = |at: &usize| s[..*at].contains(&Symbol::V);
-    !suppressible_digits(s).iter().any(v_before) || !s.contains(&Symbol::Nine)
+    !suppressible_digits(s).iter().any(v_before) || !has_a_nine(s)
 }
 
 fn at_most_one_kind_of_sign(s: &[Symbol]) -> bool {
     SIGNS.iter().filter(|sign| s.contains(sign)).count() <= 1
+}
+
+fn at_most_one_punched_digit(s: &[Symbol]) -> bool {
+    s.iter().filter(|symbol| symbol.is_punched()).count() <= 1
 }
 
 fn static_symbols_outside(s: &[Symbol]) -> bool {

@@ -1,4 +1,4 @@
-//! The sheet of examples, the plan example and the lister's listing as data in the words of the rules, and the case and answer
+//! The sheet of examples, the plan examples and the lister's listing as data in the words of the rules, and the case and answer
 //! lines made of them and of the manual's examples. The answers come from this data and not from the calls of this program.
 
 use crate::cases::{Case, Reply};
@@ -25,23 +25,58 @@ pub const EDITED: &[(&str, i64, u64, &str)] = &[
     ("99", 99, 0, "99"),
     ("99", -9, 1, "00"),
     ("**B**", 5, 0, "****5"),
+    ("99T", 123, 0, "12C"),
+    ("99T", -123, 0, "12L"),
+    ("99I", 123, 0, "12C"),
+    ("99I", -123, 0, "123"),
+    ("99R", 123, 0, "123"),
+    ("99R", -123, 0, "12L"),
+    ("9T", -1, 0, "0J"),
+    ("9I", -1, 0, "01"),
+    ("9R", -1, 0, "0J"),
+    ("ZZT", 0, 0, "__{"),
 ];
 
 /// Picture, M, q and the number of the refusal.
 pub const EDITING_REFUSED: &[(&str, i64, u64, u64)] = &[("99", 100, 0, 8), ("99", -1, 0, 8)];
 
 /// Picture, field and value.
-pub const READ: &[(&str, &str, i64)] = &[("ZZ9", "__7", 7), ("ZZZ", "___", 0)];
+pub const READ: &[(&str, &str, i64)] = &[("ZZ9", "__7", 7), ("ZZZ", "___", 0), ("I", "{", 0), ("9T", "1}", -10)];
 
 /// Picture, field and the number of the refusal.
-pub const READING_REFUSED: &[(&str, &str, u64)] = &[("ZZ9", "___", 10), ("ZZ9", "007", 10)];
+pub const READING_REFUSED: &[(&str, &str, u64)] =
+    &[("ZZ9", "___", 10), ("ZZ9", "007", 10), ("I", "0", 10), ("T", "}", 10), ("9T", "0}", 10)];
 
 /// Picture, number and length; an accepted picture's length is its n.
-pub const CHECKED: &[(&str, u64, u64)] =
-    &[("(64)9", 5, 0), ("(64)9V", 3, 0), ("(15)9", 0, 15), ("(16)9", 5, 0), ("9Z", 4, 0), ("CR", 5, 0), ("(0)9", 2, 0)];
+pub const CHECKED: &[(&str, u64, u64)] = &[
+    ("(64)9", 5, 0),
+    ("(64)9V", 3, 0),
+    ("(15)9", 0, 15),
+    ("(16)9", 5, 0),
+    ("9Z", 4, 0),
+    ("CR", 5, 0),
+    ("(0)9", 2, 0),
+    ("9R", 0, 2),
+    ("9CR", 0, 3),
+    ("RCR", 4, 0),
+    ("CRR", 2, 0),
+    ("(1)T", 0, 1),
+    ("(1)R", 2, 0),
+    ("(2)I", 4, 0),
+    ("TT", 4, 0),
+    ("TR", 4, 0),
+    ("S9T", 4, 0),
+    ("TZ", 4, 0),
+    ("ZVZT", 4, 0),
+];
 
 pub const LAYOUT: &[u8] = b"ZZ9V.99;-9;";
 pub const PLAN: &[u8] = &[2, 6, 3, 1, 2, 2, 0, 0, 8, 1, 1, 0, 8, 0, 0, 5, 0];
+
+/// A layout with the symbol R, its plan, and bytes that have that R in a mark and are no plan.
+pub const PUNCHED_LAYOUT: &[u8] = b"9R;";
+pub const PUNCHED_PLAN: &[u8] = &[1, 2, 2, 0, 0, 2, 0, 17];
+pub const NO_PLAN: &[u8] = &[1, 3, 3, 0, 0, 3, 0, 11, 17];
 
 /// The records of the listing with their values.
 pub const RECORDS: &[(&[u8], &[i64])] = &[(b" 12.34-7", &[1234, -7]), (b"  7.00 8", &[700, 8])];
@@ -59,10 +94,11 @@ const SPARE: usize = 3;
 /// A case and the answer that the rules or the manual give to it.
 pub type Stated = (Case, Reply);
 
-/// The sheet, the plan example, the records of the listing and the manual's examples.
+/// The sheet, the plan examples, the records of the listing and the manual's examples.
 pub fn stated() -> Vec<Stated> {
     let mut all = sheet();
     all.extend(plan_example());
+    all.extend(punched_plan());
     all.extend(manual::examples().into_iter().map(|(picture, example)| of_manual(picture, example)));
     all
 }
@@ -92,6 +128,13 @@ fn plan_example() -> Vec<Stated> {
     let refused = Case::PlanRead { plan: PLAN.to_vec(), record: REFUSED_RECORD.to_vec(), row };
     all.push(refused_case(refused, 10, 1));
     all
+}
+
+fn punched_plan() -> Vec<Stated> {
+    let lent = vec![GUARD; PUNCHED_PLAN.len() + SPARE];
+    let compiling = Case::Compile { layout: PUNCHED_LAYOUT.to_vec(), plan: lent };
+    let refused = Case::PlanRead { plan: NO_PLAN.to_vec(), record: b"7CR".to_vec(), row: vec![GUARD; 8] };
+    vec![stated_case(compiling, 8, PUNCHED_PLAN), refused_case(refused, 12, 0)]
 }
 
 fn of_manual(picture: &str, example: Example) -> Stated {

@@ -18,11 +18,14 @@ pub enum Symbol {
     Plus,
     Minus,
     Dollar,
+    T,
+    I,
+    R,
     Credit,
     Debit,
 }
 
-const LETTERS: [(u8, Symbol); 12] = [
+const LETTERS: [(u8, Symbol); 15] = [
     (b'9', Symbol::Nine),
     (b'Z', Symbol::Z),
     (b'*', Symbol::Star),
@@ -35,11 +38,24 @@ const LETTERS: [(u8, Symbol); 12] = [
     (b'+', Symbol::Plus),
     (b'-', Symbol::Minus),
     (b'$', Symbol::Dollar),
+    (b'T', Symbol::T),
+    (b'I', Symbol::I),
+    (b'R', Symbol::R),
 ];
 
 impl Symbol {
     fn of(byte: u8) -> Option<Symbol> {
         LETTERS.iter().find(|(letter, _)| *letter == byte).map(|(_, symbol)| *symbol)
+    }
+
+    /// Whether it is a digit that carries the sign.
+    pub fn is_punched(self) -> bool {
+        matches!(self, Symbol::T | Symbol::I | Symbol::R)
+    }
+
+    /// Whether it is a digit that is always printed.
+    pub fn is_nine(self) -> bool {
+        self == Symbol::Nine || self.is_punched()
     }
 
     /// What it counts towards the 64 symbols of a picture.
@@ -81,7 +97,7 @@ fn from_the_right(text: &[u8]) -> Option<Vec<Symbol>> {
     while let Some((&byte, before)) = rest.split_last() {
         let symbol = Symbol::of(byte)?;
         let (factor, before) = split_factor(before)?;
-        if symbol == Symbol::V && factor.is_some() {
+        if matches!(symbol, Symbol::V | Symbol::R) && factor.is_some() {
             return None;
         }
         found.extend(std::iter::repeat_n(symbol, factor.unwrap_or(1)));

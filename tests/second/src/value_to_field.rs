@@ -6,7 +6,7 @@ use crate::rules_of_shape::Picture;
 use crate::text_to_symbols::Symbol;
 use std::ops::Range;
 
-/// A value brought to the scale of a picture: the sign and T.
+/// A value brought to the scale of a picture: the sign and the magnitude.
 #[derive(Clone, Copy, PartialEq, Eq, Debug)]
 pub struct Aligned {
     pub negative: bool,
@@ -64,7 +64,7 @@ fn print(picture: &Picture, value: Aligned) -> Vec<u8> {
                 field.extend_from_slice(character(drifting, value.negative));
             }
             (true, _, _) => field.push(picture.fill()),
-            (false, _, Some(digit)) => field.push(digit),
+            (false, _, Some(digit)) => field.push(figure(symbol, digit, value.negative)),
             (false, _, None) => field.extend_from_slice(character(symbol, value.negative)),
         }
     }
@@ -87,6 +87,23 @@ fn printing_starts(picture: &Picture, shown: &[u8]) -> usize {
     }
 }
 
+/// What a digit symbol prints for a digit.
+fn figure(symbol: Symbol, digit: u8, negative: bool) -> u8 {
+    match (symbol, negative) {
+        (Symbol::T | Symbol::I, false) => punched(digit, b'{', b'A'),
+        (Symbol::T | Symbol::R, true) => punched(digit, b'}', b'J'),
+        _ => digit,
+    }
+}
+
+/// The digit with a sign punched over it: the letters of 1 to 9 follow each other, 0 stands apart.
+fn punched(digit: u8, of_zero: u8, of_one: u8) -> u8 {
+    match digit {
+        b'0' => of_zero,
+        _ => of_one + (digit - b'1'),
+    }
+}
+
 /// What a symbol that is no digit prints.
 fn character(symbol: Symbol, negative: bool) -> &'static [u8] {
     match (symbol, negative) {
@@ -100,6 +117,6 @@ fn character(symbol: Symbol, negative: bool) -> &'static [u8] {
         (Symbol::Credit, true) => b"CR",
         (Symbol::Debit, true) => b"DB",
         (Symbol::Credit | Symbol::Debit, false) => b"  ",
-        (Symbol::V | Symbol::Nine | Symbol::Z | Symbol::Star, _) => b"",
+        (Symbol::V | Symbol::Nine | Symbol::Z | Symbol::Star | Symbol::T | Symbol::I | Symbol::R, _) => b"",
     }
 }

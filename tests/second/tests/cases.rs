@@ -1,7 +1,10 @@
 //! The cases that the program makes: repeatable, deep enough, and every refusal leaving the lent memory as it was.
 
 use second::cases::{hex, unhex, Case, Reply};
+use second::collector::numbers;
 use second::make::{case, random::Random, KINDS};
+use second::rules_of_shape::Picture;
+use second::text_to_symbols::Symbol;
 
 fn answered(kind: &str, seed: u64, count: usize) -> Vec<(Case, Reply)> {
     let mut random = Random::new(seed);
@@ -70,6 +73,50 @@ fn every_number_comes_back_in_every_call_that_has_it() {
         seen.sort_unstable();
         seen.dedup();
         assert_eq!(seen, expected, "{kind}");
+    }
+}
+
+/// The punched digit of a text's picture, if it has one.
+fn punched(text: &[u8]) -> Option<Symbol> {
+    Picture::of(text).ok()?.symbols.into_iter().find(|symbol| symbol.is_punched())
+}
+
+#[test]
+fn many_cases_have_a_punched_digit_of_either_sign() {
+    let (edits, reads) = (answered("edit", 18, 4_000), answered("read", 19, 4_000));
+    for symbol in [Symbol::T, Symbol::I, Symbol::R] {
+        let (mut edited, mut read) = ([0; 2], [0; 3]);
+        for (case, reply) in edits.iter().chain(&reads) {
+            match case {
+                Case::Edit { text, m, .. } if punched(text) == Some(symbol) && reply.number() == 0 => {
+                    edited[usize::from(*m < 0)] += 1;
+                }
+                Case::Read { text, .. } if punched(text) == Some(symbol) => match reply.number() {
+                    0 => read[usize::from(numbers(&reply.memory)[0] < 0)] += 1,
+                    _ => read[2] += 1,
+                },
+                _ => {}
+            }
+        }
+        assert!(edited.iter().chain(&read).all(|&count| count > 40), "{symbol:?} {edited:?} {read:?}");
+    }
+}
+
+#[test]
+fn plans_with_every_byte_are_run_and_refused() {
+    let cases = answered("layout", 20, 12_000);
+    for byte in 0..=18 {
+        let (mut run, mut refused) = (0, 0);
+        for (case, reply) in &cases {
+            if let Case::PlanRead { plan, .. } | Case::PlanEdit { plan, .. } = case {
+                let positions = plan.get(3 * usize::from(plan.first().copied().unwrap_or(0)) + 3..).unwrap_or(&[]);
+                if positions.contains(&byte) {
+                    *(if reply.number() == 12 { &mut refused } else { &mut run }) += 1;
+                }
+            }
+        }
+        let run_rightly = if byte == 18 { run == 0 } else { run > 100 };
+        assert!(run_rightly && refused > 5, "{byte}: {run} run, {refused} refused");
     }
 }
 

@@ -57,12 +57,22 @@ fn lengths_of_texts() {
 fn marks_are_the_last_two_bytes() {
     all_are(
         2,
-        &["9(1)DB", "9(2)CR", "9DBB", "9CRV", "CR9", "9D(1)B", "9CVR", "9R", "9C", "9D", "9DBCR", "CRR", "(1)DB"],
+        &["9(1)DB", "9(2)CR", "9DBB", "9CRV", "CR9", "9D(1)B", "9CVR", "9C", "9D", "9DBCR", "CRR", "9CRR", "(1)DB"],
     );
     accepted("9(2)B", 3);
     accepted("9BDB", 4);
     edits("9BDB", -1, 0, "1_DB");
     edits("9(2)B", 1, 0, "1__");
+    accepted("9CR", 3);
+    accepted("9R", 2);
+    accepted("9VR", 2);
+    edits("9CR", -1, 0, "1CR");
+    edits("9R", -1, 0, "0J");
+}
+
+#[test]
+fn bytes_that_are_no_symbols() {
+    all_are(2, &["9Y9", "YY", "F9", "9E9", "99K", "A9", "9X", "9{", "9}", "9J", "99t", "99i", "99r", "z9", "9 9"]);
 }
 
 #[test]
@@ -80,6 +90,18 @@ fn factors() {
     );
     all_are(2, &["(1)V", "9(1)V9", "(1)CR", "(1)R", "(1)D", "9(1)DB", "(2", "(2)", "((2)9)", "(2)(9", "(a)9", "(2)Q"]);
     accepted("(63)B9", 64);
+}
+
+#[test]
+fn factors_before_punched_digits() {
+    accepted("(1)T", 1);
+    accepted("(01)I", 1);
+    accepted("9(1)T", 2);
+    all_are(4, &["(2)T", "(02)I", "(3)I", "(64)T", "9(2)TV9"]);
+    all_are(2, &["(1)R", "(01)R", "(2)R", "9(1)R", "(1)RCR", "(0)T", "(65)I", "(1)(1)T"]);
+    all_are(3, &["(64)9T", "(63)BTV", "(62)BRCR"]);
+    accepted("(63)BT", 64);
+    accepted("(62)BRV", 63);
 }
 
 #[test]
@@ -122,6 +144,27 @@ fn kinds_of_signs_and_suppression() {
 }
 
 #[test]
+fn a_punched_digit_is_the_one_sign() {
+    all_are(4, &["TT", "II", "RR", "TI", "IR", "TR", "T9T", "T,I", "TV9R"]);
+    all_are(4, &["S9T", "T9S", "ST", "+T", "T+", "9I-", "-9R", "T9CR", "RCR", "9RCR", "TDB", "9IDB"]);
+    all_are(4, &["--T", "SST", "++9I", "--9R", "S$T", "+,+T"]);
+    all_are(0, &["$9T", "9T$", "$T", "I$", "R9$"]);
+}
+
+#[test]
+fn a_punched_digit_has_the_shape_of_a_nine() {
+    all_are(4, &["TZ", "T*", "Z9TZ", "ZTZ", "I$$", "T$$9", "ZVZT", "*V*R", "ZTVZ", "TVZ", "$$V$I", "T$9", "9$T"]);
+    all_are(4, &["TVV", "VT9V", "Z*T", "Z$$T"]);
+    all_are(
+        0,
+        &["T", "I", "R", "ZT", "ZT9", "ZZR", "*I", "**T", "$$,$$T", "$$R9", "ZVT", "Z9VT9", "VT", "TV", "TV9", "9VT"],
+    );
+    all_are(0, &["R99", "9I9", "99T9", "ZZV9T", ",T", "T,", "B.T/B", "V$T", "T$V"]);
+    all_are(0, &["(14)9T", "T(14)9", "(14)ZR", "(14)*I", "(15)$T", "(7)9IV(7)9"]);
+    all_are(5, &["(15)9T", "T(15)9", "(15)ZR", "(16)$T"]);
+}
+
+#[test]
 fn numbers_of_digits() {
     all_are(0, &["(16)$", "(16)-", "(15)Z", "(15)9", "(8)ZV(7)Z", "(8)9V(7)9"]);
     all_are(5, &["(17)$", "(16)Z", "(16)9", "(8)ZV(8)Z", "(64)9", "(64)*"]);
@@ -152,6 +195,132 @@ fn zero_has_the_plus() {
     edits("99", -9, 1, "00");
     edit_is(8, "99", -1, 0);
     edits("ZZCR", -9, 1, "____");
+}
+
+const PLAIN: [&str; 10] = ["0", "1", "2", "3", "4", "5", "6", "7", "8", "9"];
+const WITH_PLUS: [&str; 10] = ["{", "A", "B", "C", "D", "E", "F", "G", "H", "I"];
+const WITH_MINUS: [&str; 10] = ["}", "J", "K", "L", "M", "N", "O", "P", "Q", "R"];
+
+#[test]
+fn both_lists_under_punched_digits() {
+    let of_symbols = [("T", WITH_PLUS, WITH_MINUS), ("I", WITH_PLUS, PLAIN), ("R", PLAIN, WITH_MINUS)];
+    for (symbol, plus, minus) in of_symbols {
+        let (alone, first, last) = (symbol.to_string(), format!("{symbol}9"), format!("9{symbol}"));
+        for digit in 0..10 {
+            let (m, plus, minus) = (digit as i64, plus[digit], minus[digit]);
+            let shown = [
+                (&last, 10 + m, format!("1{plus}")),
+                (&last, -10 - m, format!("1{minus}")),
+                (&first, 10 * m + 1, format!("{plus}1")),
+                (&first, -10 * m - 1, format!("{minus}1")),
+            ];
+            for (text, m, field) in shown {
+                edits(text, m, 0, &field);
+                reads(text, &field, m);
+            }
+            edits(&alone, m, 0, plus);
+            reads(&alone, plus, m);
+            if digit > 0 {
+                edits(&alone, -m, 0, minus);
+                reads(&alone, minus, -m);
+            } else {
+                read_is(10, &alone, minus);
+            }
+        }
+    }
+    for digit in 0..10 {
+        read_is(10, "T", PLAIN[digit]);
+        read_is(10, "I", WITH_MINUS[digit]);
+        read_is(10, "R", WITH_PLUS[digit]);
+    }
+}
+
+#[test]
+fn plain_digits_are_never_punched() {
+    for figure in WITH_PLUS.into_iter().chain(WITH_MINUS) {
+        for text in ["9", "Z", "*", "V9"] {
+            read_is(10, text, figure);
+        }
+        for text in ["9T", "ZT", "*I", "9R", "T9", "RV9"] {
+            read_is(10, text, &format!("{figure}{figure}"));
+        }
+        for (text, before, behind) in
+            [("S9", "+", ""), ("9CR", "", "CR"), ("ZZ", "_", ""), ("$$", "$", ""), ("9TV9", "1A", "")]
+        {
+            read_is(10, text, &format!("{before}{figure}{behind}"));
+        }
+    }
+}
+
+#[test]
+fn zero_is_punched_as_plus() {
+    for (text, field) in [("T", "{"), ("I", "{"), ("R", "0"), ("9T", "0{"), ("9I", "0{"), ("9R", "00"), ("T9", "{0")] {
+        edits(text, 0, 0, field);
+        edits(text, -9, 1, field);
+        reads(text, field, 0);
+    }
+    for (text, field) in
+        [("T", "}"), ("T", "0"), ("I", "0"), ("I", "}"), ("R", "}"), ("R", "{"), ("9T", "0}"), ("9I", "00")]
+    {
+        read_is(10, text, field);
+    }
+    read_is(10, "9R", "0}");
+    read_is(10, "ZZT", "__}");
+    reads("9T", "1}", -10);
+    reads("9I", "10", -10);
+    reads("9I", "1{", 10);
+    reads("9R", "1}", -10);
+    reads("T9", "}1", -1);
+}
+
+#[test]
+fn punched_digits_take_negatives() {
+    edits("9T", -1, 0, "0J");
+    edits("9I", -1, 0, "01");
+    edits("9R", -1, 0, "0J");
+    edit_is(8, "99", -1, 0);
+    edit_is(8, "9T", 100, 0);
+    edit_is(8, "9T", -100, 0);
+    edit_is(8, "VT", 1, 0);
+    edits("99T", -1_239, 1, "12L");
+    edits("99T", 1_239, 1, "12C");
+    edits("(14)9T", -999_999_999_999_999, 0, "99999999999999R");
+    edits("I(14)9", 999_999_999_999_999, 0, "I99999999999999");
+    edit_is(6, "T", -1_000_000_000_000_000, 15);
+    edits("T", -999_999_999_999_999, 15, "{");
+}
+
+#[test]
+fn punched_digits_are_always_printed() {
+    edits("ZZT", 0, 0, "__{");
+    edits("ZZT", -5, 0, "__N");
+    edits("ZZT", 120, 0, "12{");
+    edits("**T", 0, 0, "**{");
+    edits("**R", -7, 0, "**P");
+    edits("$$,$$T", 0, 0, "____${");
+    edits("$$,$$T", -1_234, 0, "$1,23M");
+    edits("$$,$$I", -123, 0, "__$123");
+    edits("ZT9", 5, 0, "_{5");
+    edits("ZT9", -5, 0, "_}5");
+    edits("ZT9", -105, 0, "1}5");
+    edits("ZR9", -15, 0, "_J5");
+    edits("9VT", -12, 1, "1K");
+    edits("TV9", -12, 1, "J2");
+    edits("ZV.T", -2, 1, "_.K");
+    edits("ZZ.VT", 2, 1, "___B");
+    edits("Z,ZI/", -3, 0, "___3/");
+    edits("T$", -3, 0, "L$");
+    edits(",T.", 0, 0, ",{.");
+    for (text, field, m) in
+        [("ZZT", "__N", -5), ("ZT9", "_}5", -5), ("$$,$$T", "$1,23M", -1_234), ("ZV.T", "_.K", -2), ("**T", "**{", 0)]
+    {
+        reads(text, field, m);
+    }
+    for (text, field) in
+        [("ZZT", "___"), ("ZZT", "_0N"), ("ZZT", "00N"), ("ZT9", "__5"), ("**T", "***"), ("ZT9", "_{E"), ("ZZT", "_AE")]
+    {
+        read_is(10, text, field);
+    }
 }
 
 #[test]
@@ -317,6 +486,50 @@ fn bytes_that_are_no_plan() {
     assert!(!is_plan(&field(16, 16, 0, &[0; 16])) && is_plan(&field(15, 15, 0, &[0; 15])), "digits");
     assert!(!is_plan(&field(1, 2, 0, &[0])) && !is_plan(&field(0, 0, 0, &[])), "V beyond the end; no position");
     assert!(!is_plan(&[]) && !is_plan(&[0]) && !is_plan(&[0, 0, 0]), "no field");
+}
+
+#[test]
+fn plans_of_punched_digits() {
+    assert_eq!(plan("9R;"), [1, 2, 2, 0, 0, 2, 0, 17]);
+    assert_eq!(plan("9CR;"), [1, 3, 3, 0, 0, 3, 0, 11, 12]);
+    assert_eq!(plan("T;I;R;"), [3, 1, 1, 0, 1, 1, 0, 1, 1, 0, 0, 3, 15, 16, 17]);
+    assert_eq!(plan("ZT;*I;$$R;"), [3, 2, 2, 1, 2, 2, 2, 3, 3, 6, 0, 7, 1, 15, 1, 16, 2, 1, 17]);
+    assert_eq!(plan("9VT;"), [1, 2, 1, 0, 0, 2, 0, 15]);
+    assert_eq!(plan("TV;"), plan("T;"));
+    compile_is(4, 2, b"9T;TT;");
+    compile_is(2, 1, b"CRR;9;");
+    compile_is(2, 2, b"9R;(1)R;");
+    let mut record = [b'#'; 6];
+    assert_eq!(plan_edit(&plan("9T;9I;9R;"), &[-12, -12, -12], &mut record), Answer::success(6));
+    assert_eq!(&record, b"1K121K");
+    let mut row = [0; 3];
+    assert_eq!(plan_read(&plan("9T;9I;9R;"), b"1B1B12", &mut row), Answer::success(3));
+    assert_eq!(row, [12, 12, 12]);
+    let second_bad = Answer { number: 10, field: 2, length: 0, value: 0 };
+    assert_eq!(plan_read(&plan("9T;9I;9R;"), b"1B001}", &mut row), second_bad);
+}
+
+#[test]
+fn bytes_of_punched_digits_that_are_no_plan() {
+    let field = |v: u8, kind: u8, positions: &[u8]| {
+        let n = positions.len() as u8;
+        is_plan(&[&[1, n, v, kind, 0, n], positions].concat())
+    };
+    assert!(field(3, 0, &[0, 11, 12]) && !field(3, 0, &[0, 11, 17]), "R of the mark");
+    assert!(field(2, 0, &[0, 17]) && !field(2, 0, &[0, 12]), "R that is the symbol");
+    assert!(!field(3, 0, &[17, 11, 12]) && !field(3, 0, &[17, 11, 17]) && !field(1, 0, &[12]), "R beside the mark");
+    for punched in 15..=17 {
+        assert!(field(1, 0, &[punched]) && field(0, 0, &[punched]) && field(2, 0, &[punched, 6]));
+        assert!(field(2, 1, &[1, punched]) && field(3, 6, &[2, 1, punched]) && field(1, 1, &[1, punched]));
+        for kind in 1..=7 {
+            assert!(!field(1, kind, &[punched]), "kind {kind} borne out by no position");
+        }
+        assert!(!field(2, 1, &[punched, 1]) && !field(1, 1, &[punched, 1]), "suppressible digit behind it");
+        assert!(!field(1, 1, &[1, 1, punched]), "suppressible digit behind V beside it");
+        assert!(!field(3, 3, &[2, 1, punched]) && !field(2, 0, &[3, punched]), "two signs");
+        assert!((15..=17).all(|other| !field(2, 0, &[punched, other])), "two of them");
+        assert!(!field(1, 0, &[18]) && !field(2, 0, &[punched, 18]), "a byte that is none");
+    }
 }
 
 #[test]

@@ -87,6 +87,16 @@ fn long_lines_are_never_cut() {
 }
 
 #[test]
+fn punched_signs_are_listed_as_signs() {
+    gives(
+        b"9VT;9I;9R;\n1B1B12\n1K121K\n0{0{00\n0}0{00\n1B001}\n",
+        "0,0,0,3,6\n1,0,0,12,12,12\n2,0,0,-12,-12,-12\n3,0,0,0,0,0\n4,10,1\n5,10,2\n",
+    );
+    gives(b"9R;CRR;\n", "0,2,2\n");
+    gives(b"9T;TT;\n", "0,4,2\n");
+}
+
+#[test]
 fn refused_records_do_not_stop_the_list() {
     gives(b"S9V9;99;\n-1207\n+0007\n-0007\n+12x7\n", "0,0,0,2,5\n1,0,0,-12,7\n2,0,0,0,7\n3,10,1\n4,10,2\n");
 }

@@ -10,7 +10,7 @@ use std::collections::HashSet;
 
 /// The plans of all one-picture layouts of up to three positions, written out with V at every place.
 fn plans_of_small_pictures() -> HashSet<Vec<u8>> {
-    let letters = b"9Z*V,./BS+-$CRD";
+    let letters = b"9Z*V,./BS+-$CRDTI";
     let mut texts: Vec<Vec<u8>> = vec![Vec::new()];
     let mut plans = HashSet::new();
     for _ in 0..4 {
@@ -26,8 +26,8 @@ fn small_plans_are_exactly_those_of_small_pictures() {
     let known = plans_of_small_pictures();
     let mut found = 0;
     for n in 0..=3u8 {
-        for code in 0..16usize.pow(u32::from(n)) {
-            let positions: Vec<u8> = (0..u32::from(n)).map(|k| (code / 16usize.pow(k) % 16) as u8).collect();
+        for code in 0..19usize.pow(u32::from(n)) {
+            let positions: Vec<u8> = (0..u32::from(n)).map(|k| (code / 19usize.pow(k) % 19) as u8).collect();
             for (v, kind) in (0..=4).flat_map(|v| (0..=7).map(move |kind| (v, kind))) {
                 let bytes = [&[1, n, v, kind, 0, n], &positions[..]].concat();
                 assert_eq!(is_plan(&bytes), known.contains(&bytes), "{bytes:?}");
@@ -95,7 +95,7 @@ fn one_byte_more_or_less_is_no_plan() {
         let plan = second::make::plans::good(&mut random);
         assert!(is_plan(&plan));
         assert!(!is_plan(&plan[..plan.len() - 1]));
-        for byte in 0..=14 {
+        for byte in 0..=18 {
             assert!(!is_plan(&[&plan[..], &[byte]].concat()));
         }
     }

@@ -1,4 +1,4 @@
-//! The sheet of examples, the plan example and the manual's examples, each held against the calls of this program.
+//! The sheet of examples, the plan examples and the manual's examples, each held against the calls of this program.
 
 use second::manual::{examples, Example};
 use second::rules_of_shape::Picture;
@@ -55,9 +55,17 @@ fn plan_example() {
 }
 
 #[test]
+fn plan_of_a_punched_digit() {
+    let mut plan = [0; 8];
+    assert_eq!(compile(sheet::PUNCHED_LAYOUT, &mut plan), Answer::success(8));
+    assert_eq!(plan, sheet::PUNCHED_PLAN);
+    assert!(is_plan(&plan) && !is_plan(sheet::NO_PLAN));
+}
+
+#[test]
 fn manual_examples() {
     let all = examples();
-    assert_eq!(all.len(), 73);
+    assert_eq!(all.len(), 81);
     for (text, example) in all {
         let picture = Picture::of(text.as_bytes()).expect(text);
         match example {

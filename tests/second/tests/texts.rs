@@ -22,11 +22,11 @@ fn written_out(text: &[u8]) -> Option<Vec<u8>> {
             times = worth.parse().ok().filter(|times| plain && (1..=64).contains(times))?;
             at = close + 1;
             let mark_follows = at + 2 == text.len() && text[at..] == *b"DB";
-            if mark_follows || !b"9Z*,./BS+-$".contains(text.get(at)?) {
+            if mark_follows || !b"9Z*,./BS+-$TI".contains(text.get(at)?) {
                 return None;
             }
         }
-        if !b"9Z*V,./BS+-$".contains(&text[at]) {
+        if !b"9Z*V,./BS+-$TIR".contains(&text[at]) {
             return None;
         }
         out.extend(vec![text[at]; times]);

@@ -5,14 +5,17 @@ use super::values;
 use crate::rules_of_shape::Picture;
 use crate::value_to_field::field_of;
 
-const CHARACTERS: &[u8] = b"0123456789 *+-$,./CRDB";
+const CHARACTERS: &[u8] = b"0123456789 *+-$,./CRDB{}AIJN";
+
+/// The characters of the digits: plain, with a plus punched over them, with a minus.
+const FIGURES: [&[u8; 10]; 3] = [b"0123456789", b"{ABCDEFGHI", b"}JKLMNOPQR"];
 
 /// A field for a picture: of a value, damaged in some way, or of a wrong length.
 pub fn for_picture(random: &mut Random, picture: &Picture) -> Vec<u8> {
     let field = edited(random, picture);
     match random.below(20) {
         0..=8 => field,
-        9..=17 => damaged(random, field),
+        9..=17 => damaged(random, picture, field),
         18 => (0..field.len()).map(|_| random.pick(CHARACTERS)).collect(),
         _ => other_length(random, field),
     }
@@ -24,7 +27,7 @@ pub fn record(random: &mut Random, pictures: &[Picture]) -> Vec<u8> {
     if random.percent(35) {
         for _ in 0..random.between(1, 2) {
             let k = random.below(fields.len());
-            fields[k] = damaged(random, fields[k].clone());
+            fields[k] = damaged(random, &pictures[k], fields[k].clone());
         }
     }
     let record = fields.concat();
@@ -42,8 +45,13 @@ pub fn edited(random: &mut Random, picture: &Picture) -> Vec<u8> {
 }
 
 /// The field changed without a change of its length; at times it is a field again.
-pub fn damaged(random: &mut Random, mut field: Vec<u8>) -> Vec<u8> {
+pub fn damaged(random: &mut Random, picture: &Picture, mut field: Vec<u8>) -> Vec<u8> {
     let at = random.below(field.len());
+    let punched = punched_position(picture);
+    if random.percent(if punched.is_some() { 50 } else { 5 }) {
+        other_figure(random, &mut field, punched.unwrap_or(at));
+        return field;
+    }
     match random.below(10) {
         0 | 1 => field[at] = random.pick(CHARACTERS),
         2 => field[at] = random.byte(),
@@ -59,6 +67,26 @@ pub fn damaged(random: &mut Random, mut field: Vec<u8>) -> Vec<u8> {
         }
     }
     field
+}
+
+/// The position that a punched digit has in the fields of a picture.
+fn punched_position(picture: &Picture) -> Option<usize> {
+    let at = picture.symbols.iter().position(|symbol| symbol.is_punched())?;
+    Some(picture.symbols[..at].iter().map(|symbol| symbol.width()).sum())
+}
+
+/// A digit with another sign punched over it or none, most times that at the position; at times all digits become zeros first.
+fn other_figure(random: &mut Random, field: &mut [u8], at: usize) {
+    let worth = |byte: u8| FIGURES.iter().find_map(|list| list.iter().position(|&figure| figure == byte));
+    let mut at = at;
+    match random.below(8) {
+        0..=3 => {}
+        4 | 5 => field.iter_mut().filter(|byte| worth(**byte).is_some()).for_each(|byte| *byte = b'0'),
+        _ => at = random.below(field.len()),
+    }
+    let same = worth(field[at]).unwrap_or(0);
+    let digit = if random.percent(70) { same } else { random.below(10) };
+    field[at] = random.pick(&FIGURES)[digit];
 }
 
 /// A digit 0 in place of one of the blanks or asterisks.

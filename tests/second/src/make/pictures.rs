@@ -3,8 +3,8 @@
 use super::random::Random;
 use crate::check;
 
-const SYMBOLS: &[u8] = b"9Z*V,./BS+-$";
-const ALPHABET: &[u8] = b"9Z*V,./BS+-$CRD()0123456789";
+const SYMBOLS: &[u8] = b"9Z*V,./BS+-$TIR";
+const ALPHABET: &[u8] = b"9Z*V,./BS+-$TICRD()0123456789";
 const INSERTIONS: &[u8] = b",./B";
 
 /// Texts at the edges of the rules, with a bar between them.
@@ -15,20 +15,25 @@ const EDGES: &str = "\
     $,S|V|B|CR|DB|VCR|V$9|VS9|9V-|9-V|9V$|9VCR|$V$|V$$|VSS|S$S|$S$|$$S9|S$$9|$$9S|$$S|-$$|SS$9|$SS9|\
     SS9$|(16)$|(17)$|(15)Z|(16)Z|(15)9|(16)9|9Z|Z*|*Z|ZSS|$$Z|ZZ9VZ|ZVZ|Z9V9|9VZ|ZV9|*V*|**V9|9$9|$9$|\
     9S9|S9S|S9CR|-9DB|+9-|S9-|$$9CR|SS9CR|$$SS|++--|,ZZ|ZZ,|V.ZZ|VZZ|V,.Z|ZZZ.VZZ|$$,9|+ZZ|+++|ZV.9|\
-    **B**|*CR|$*DB|ZDB|z9|9 9|9;9|T9|9Y9|9E9|99K|9\n|9\0";
+    **B**|*CR|$*DB|ZDB|T|I|R|9T|9I|9R|T9|R99|99T9|9CR|RCR|9RCR|CRR|9CRR|TCR|IDB|RDB|RDR|9VR|VRCR|(1)T|(01)I|\
+    (2)T|(02)I|(3)I|(2)R|(01)R|9(1)R|(1)RCR|TT|II|RR|TI|IR|T9R|T,T|S9T|T9S|+T|T-|-9I|SST|--T|++9R|T--|ST$|\
+    $T|T$|9$R|R$9|ZT|*I|ZZV9T|$$,$$T|$$R|**T|TZ|I*|T$$|Z9TZ|ZT9|ZVT|ZVZT|TVZ|*V*R|ZTVZ|TV9|9VT|VT|TV|9VTV|\
+    V,T|T.V|BTB|(13)9T9|(14)9T|(15)9T|(14)ZR|(15)ZR|(15)$T|(16)$T|(64)T|(63)BT|(63)BR|(62)BTV|(63)BTV|(61)BTCR|\
+    z9|9 9|9;9|t9|9Y9|F9|9E9|99K|A9|9X|9\n|9\0";
 
 /// A text, accepted in so many of a hundred.
 pub fn text(random: &mut Random, accepted_percent: usize) -> Vec<u8> {
     if random.percent(accepted_percent) {
         return accepted(random);
     }
-    match random.below(10) {
+    match random.below(12) {
         0..=4 => {
             let text = accepted(random);
             near_miss(random, text)
         }
-        5..=7 => at_the_edges(random),
-        8 => of_length(random),
+        5..=8 => at_the_edges(random),
+        9 => of_length(random),
+        10 => other_end(random),
         _ => noise(random),
     }
 }
@@ -46,7 +51,9 @@ pub fn accepted(random: &mut Random) -> Vec<u8> {
 fn built(random: &mut Random) -> Vec<u8> {
     let lead = random.pick(b"9ZZ**S+-$$");
     let drifts = b"S+-$".contains(&lead);
-    let mut signs = if b"S+-".contains(&lead) { Vec::new() } else { vec![random.pick(b"    S+-CD")] };
+    let leads_signed = b"S+-".contains(&lead);
+    let punched = (!leads_signed && random.percent(36)).then(|| random.pick(b"TIR"));
+    let mut signs = if leads_signed || punched.is_some() { vec![b' '] } else { vec![random.pick(b"    S+-CD")] };
     signs.push(if lead != b'$' && random.percent(30) { b'$' } else { b' ' });
     let mark: &[u8] = match signs[0] {
         b'C' => b"CR",
@@ -57,7 +64,7 @@ fn built(random: &mut Random) -> Vec<u8> {
     random.shuffle(&mut signs);
     let (mut front, back): (Vec<u8>, Vec<u8>) = signs.into_iter().partition(|_| random.percent(60));
     let start = front.len();
-    front.extend(digits(random, lead, drifts));
+    front.extend(digits(random, lead, drifts, punched));
     let end = front.len();
     front.extend(back);
     stray_v(random, &mut front, start, end, drifts);
@@ -67,8 +74,8 @@ fn built(random: &mut Random) -> Vec<u8> {
     text
 }
 
-/// The digits with the first drifting symbol before them and, most times, a V among them.
-fn digits(random: &mut Random, lead: u8, drifts: bool) -> Vec<u8> {
+/// The digits with the first drifting symbol before them and, most times, a V among them. Where a sign is punched, a 9 is left for it.
+fn digits(random: &mut Random, lead: u8, drifts: bool, punched: Option<u8>) -> Vec<u8> {
     let count = match random.below(10) {
         0..=4 => random.between(1, 4),
         5..=8 => random.between(1, 15),
@@ -76,12 +83,19 @@ fn digits(random: &mut Random, lead: u8, drifts: bool) -> Vec<u8> {
     };
     let v = random.percent(60).then(|| random.between(0, count));
     let mut suppressible = if lead == b'9' { 0 } else { random.between(1, count) };
-    if v.is_some_and(|v| v < suppressible) {
+    if punched.is_some() {
+        suppressible = suppressible.min(count - 1).min(v.unwrap_or(count));
+    } else if v.is_some_and(|v| v < suppressible) {
         suppressible = count;
     }
     let first = usize::from(drifts);
     let mut symbols = vec![lead; first + suppressible];
     symbols.resize(first + count, b'9');
+    if let Some(punched) = punched {
+        let (first_nine, last) = (first + suppressible, symbols.len() - 1);
+        let any = random.between(first_nine, last);
+        symbols[random.pick(&[first_nine, last, last, any, any])] = punched;
+    }
     if let Some(v) = v {
         symbols.insert(first + v, b'V');
     }
@@ -125,7 +139,7 @@ fn factored(random: &mut Random, symbols: &[u8]) -> Vec<u8> {
         let run = rest.iter().take_while(|&&s| s == symbol).count();
         let taken = if random.percent(70) { run } else { random.between(1, run) };
         let wanted = random.percent(if taken > 1 { eager } else { eager / 10 });
-        if symbol == b'V' || !wanted {
+        if b"VR".contains(&symbol) || !wanted {
             text.extend(std::iter::repeat_n(symbol, taken));
         } else if random.percent(30) {
             text.extend(format!("({taken:02})").bytes().chain([symbol]));
@@ -163,6 +177,15 @@ pub fn near_miss(random: &mut Random, mut text: Vec<u8>) -> Vec<u8> {
             }
         }
     }
+    text
+}
+
+/// An accepted text with another end: one of those that look like a mark or a punched digit, or have a factor before it.
+fn other_end(random: &mut Random) -> Vec<u8> {
+    let ends = ["R", "CR", "RCR", "CRR", "T", "I", "TDB", "DBR", "(1)T", "(1)I", "(1)R", "(2)T", "(3)I", "(2)R"];
+    let mut text = accepted(random);
+    text.truncate(text.len() - random.below(3).min(text.len()));
+    text.extend(random.pick(&ends).bytes());
     text
 }
 
