@@ -2,7 +2,7 @@
 //! address.
 
 use crate::judge::Counts;
-use crate::look::PRINTED;
+use crate::look::{PRINTED, PUNCHED};
 use crate::plan::Field;
 use std::mem::MaybeUninit;
 use std::ptr;
@@ -28,33 +28,35 @@ pub unsafe fn edit_field(field: Field, counts: &Counts, m: i64, out: *mut u8) {
     static FILLS: [[u8; 16]; 2] = [[b' '; 16], [b'*'; 16]];
     let t = m.unsigned_abs();
     let filled = FILLS[(field.kind == 2) as usize].as_ptr();
-    if t == 0 && counts.suppressible == counts.digits {
+    if t == 0 && counts.suppressible {
         ptr::write_bytes(out, *filled, field.n);
         return;
     }
     // the digits that take the fill: leading zeros that may, and stand before V
-    let cut = (counts.digits - length_of(t)).min(counts.suppressible).min(counts.whole) as usize;
+    let cut = (counts.digits - length_of(t)).min(counts.hidden) as usize;
     let mut text = MaybeUninit::uninit();
     let start = digits_of(t, counts.digits, cut, filled, &mut text);
     let printed = PRINTED[(m < 0) as usize].as_ptr();
-    let (before, after) =
-        ((field.roles, out, field.v), (field.roles.add(field.v), out.add(field.v), field.n - field.v));
-    if field.kind == 0 {
-        Pick { next: start, start, cut: 0, printed, filled }.all::<false, false>((field.roles, out, field.n));
-    } else if field.kind < 3 {
-        let mut pick = Pick { next: start, start, cut, printed, filled };
-        pick.all::<true, false>(before);
-        pick.all::<false, false>(after);
+    if counts.punched {
+        Pick::<true> { next: start, start, cut, printed, filled }.field(field, out);
+        punch(field, m, out);
     } else {
-        // the first drifting symbol counts as a digit that takes the fill
-        let start = start.sub(1);
-        let mut pick = Pick { next: start, start, cut: cut + 1, printed, filled };
-        let reached = pick.all::<true, true>(before);
-        let inside = pick.next as usize - start as usize > cut + 1;
-        pick.all::<false, false>(after);
-        let drift = if inside { reached - 1 } else { field.v };
-        *out.add(drift - 1) = *printed.add(field.kind);
+        Pick::<false> { next: start, start, cut, printed, filled }.field(field, out);
     }
+}
+
+/// Puts the punched digit where the plain one stands. It is looked for from the end, where most fields have it.
+///
+/// # Safety
+/// The field has T, I or R, and its characters are there.
+#[inline(always)]
+unsafe fn punch(field: Field, m: i64, out: *mut u8) {
+    let mut at = field.n - 1;
+    while *field.roles.add(at) < 15 {
+        at -= 1;
+    }
+    let list = PUNCHED[(m < 0) as usize].get_unchecked(*field.roles.add(at) as usize - 15);
+    *out.add(at) = *list.get_unchecked((*out.add(at) - b'0') as usize);
 }
 
 /// How many digits a number below 10^15 has; 1 for 0.
@@ -103,8 +105,9 @@ fn eight_digits(t: u64) -> u64 {
     tens | (twos - 10 * tens) << 8
 }
 
-/// Picks the characters of a field: `next` is the digit to come, `cut` how many digits take the fill, the first at `start`.
-struct Pick {
+/// Picks the characters of a field: `next` is the digit to come, `cut` how many digits take the fill, the first at `start`. With
+/// `PUNCHED` T, I and R are digits too.
+struct Pick<const PUNCHED: bool> {
     next: *const u8,
     start: *const u8,
     cut: usize,
@@ -112,7 +115,33 @@ struct Pick {
     filled: *const u8,
 }
 
-impl Pick {
+impl<const PUNCHED: bool> Pick<PUNCHED> {
+    /// The characters of a field.
+    ///
+    /// # Safety
+    /// The field is judged and has so many digits, and there is room for its characters.
+    #[inline(always)]
+    unsafe fn field(mut self, field: Field, out: *mut u8) {
+        let (before, after) =
+            ((field.roles, out, field.v), (field.roles.add(field.v), out.add(field.v), field.n - field.v));
+        if field.kind == 0 {
+            self.all::<false, false>((field.roles, out, field.n));
+        } else if field.kind < 3 {
+            self.all::<true, false>(before);
+            self.all::<false, false>(after);
+        } else {
+            // the first drifting symbol counts as a digit that takes the fill
+            self.start = self.start.sub(1);
+            self.next = self.start;
+            self.cut += 1;
+            let reached = self.all::<true, true>(before);
+            let inside = self.next as usize - self.start as usize > self.cut;
+            self.all::<false, false>(after);
+            let drift = if inside { reached - 1 } else { field.v };
+            *out.add(drift - 1) = *self.printed.add(field.kind);
+        }
+    }
+
     /// The characters of some positions, two at a time: a digit, or the first drifting symbol, is the next one; another is what it
     /// prints or, in the stretch, the fill. With `DRIFTS` it answers how many positions there are up to the first digit that
     /// prints.
@@ -143,7 +172,8 @@ impl Pick {
         let taken = self.next as usize - self.start as usize;
         let inside = STRETCH && taken.wrapping_sub(1) < self.cut;
         let other = if inside { self.filled } else { self.printed };
-        let digit = role <= 2;
+        // with one added, digits and no others are 0 to 3 above a multiple of 16
+        let digit = if PUNCHED { (role + 1) & 15 <= 3 } else { role <= 2 };
         *out = *if digit { self.next } else { other.add(role as usize) };
         self.next = self.next.add(digit as usize);
         (DRIFTS && taken <= self.cut) as usize

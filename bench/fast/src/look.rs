@@ -1,196 +1,255 @@
-//! The looks that a field can have, as one machine over its roles and its characters, a step of its table a position.
+//! The looks that a field of the right shape can have, as one machine over its positions. What moves it is the sort of a character
+//! under its role.
 //!
-//! The machine ends in PRINTING, or one more if the value is negative, exactly when the characters are those of some value that is
-//! not all fill; the value itself is added up apart.
+//! The machine ends in PRINTING, with NEGATIVE added if the value is negative, exactly when the characters are those of some value
+//! that is not all fill; the value itself is added up apart.
 
-/// A state is the offset in bytes of its rows in the table, so that a step is one addition and one load.
+use crate::plan::ROLES;
+
+/// A state is the offset in bytes of its row in the table, so that a step is one addition and one load.
 type Step = u16;
-/// 16 roles by 16 sorts of characters.
-const ROWS: Step = 512;
+/// 32 sorts.
+const ROW: Step = 64;
 
-// The sorts of characters: 0, another digit, then each that a picture can print; the last is any other.
-const ZERO: u8 = 0;
-const DIGIT: u8 = 1;
-const BLANK: u8 = 2;
-const ASTERISK: u8 = 3;
-const OTHER: u8 = 14;
-const SORTS: &[u8; 14] = b"01 *$+-,./CRDB";
+// The sorts of characters, each under its role.
+const WRONG: u8 = 0; //        no value prints it there
+const NINE: u8 = 1; //         a digit of a 9
+const NINE_PLUS: u8 = 2; //    a digit of T, I or R where the value isn't negative
+const NINE_MINUS: u8 = 3; //   and where it is
+const ZERO: u8 = 4; //         0 of a suppressible digit
+const DIGIT: u8 = 5; //        another digit of one
+const PLUS: u8 = 6; //         a sign, or the first letter of a mark, where the value isn't negative
+const MINUS: u8 = 7; //        and where it is
+const STILL_PLUS: u8 = 8; //   the second letter of a mark, likewise
+const STILL_MINUS: u8 = 9;
+const ITSELF: u8 = 10; //      $, comma, period or slash
+const BLANK: u8 = 11; //       that of B, which may be fill
+const HIDDEN: u8 = 12; //      one of HIDING for a digit or the first drifting symbol: 12 to 16
+const LAST_HIDDEN: u8 = 16;
+const INSIDE: u8 = 17; //      one of them for an insertion: 17 to 21
+const LAST_INSIDE: u8 = 21;
+const V: u8 = 22; //           no character, but V
+
+/// The fills and the drifting characters.
+const HIDING: [u8; 5] = *b" *+-$";
 
 // A state is kind * 8 + phase * 2 + 1 if negative. Kind 7 prints; state 0 is no look.
-pub const PRINTING: usize = 56;
+const PRINTS: u8 = 56;
 const NONE: u8 = 0;
-// The phases of the other kinds: before the stretch, in it with fill alone, and in it with the drifting character just seen.
-const BEFORE: u8 = 0;
+// The phases: outside the stretch, in it with fill alone, and in it with the drifting character just seen.
+const OUTSIDE: u8 = 0;
 const FILLED: u8 = 1;
 const DRIFTED: u8 = 2;
+
+/// The state that prints, and what is added to a state if the value is negative.
+pub const PRINTING: usize = PRINTS as usize * ROW as usize;
+pub const NEGATIVE: usize = ROW as usize;
 
 /// What a role prints outside the stretch, where the value isn't negative and where it is.
 pub static PRINTED: [[u8; 16]; 2] = [*b"00 ++ $,./     \0", *b"00 - -$,./ CRDB\0"];
 
-/// The sort of each byte, and the digit that it is, 0 if it is none.
-static SORT: [u8; 256] = {
-    let mut table = [OTHER; 256];
-    let mut byte = 0;
-    while byte < 256 {
-        table[byte] = if byte > 48 && byte < 58 { DIGIT } else { sort(byte as u8) };
-        byte += 1;
+/// What T, I and R print for each digit, where the value isn't negative and where it is.
+pub static PUNCHED: [[[u8; 10]; 3]; 2] =
+    [[*b"{ABCDEFGHI", *b"{ABCDEFGHI", *b"0123456789"], [*b"}JKLMNOPQR", *b"0123456789", *b"}JKLMNOPQR"]];
+
+/// By role and byte, as `place` has them: the sort of the byte, and the digit that it is, 0 if it is none.
+static SORT: [u8; ROLES * 256] = {
+    let mut table = [WRONG; ROLES * 256];
+    let mut place = 0;
+    while place < ROLES * 256 {
+        table[place] = sort((place / 256) as u8, (place % 256) as u8);
+        place += 1;
     }
     table
 };
 
-static VALUE: [u8; 256] = {
-    let mut table = [0; 256];
-    let mut digit = 0;
-    while digit < 10 {
-        table[b'0' as usize + digit] = digit as u8;
-        digit += 1;
+static VALUE: [u8; ROLES * 256] = {
+    let mut table = [0; ROLES * 256];
+    let mut place = 0;
+    while place < ROLES * 256 {
+        table[place] = value((place / 256) as u8, (place % 256) as u8);
+        place += 1;
     }
     table
 };
 
-const fn sort(byte: u8) -> u8 {
-    let mut sort = 0;
-    while sort < OTHER {
-        if SORTS[sort as usize] == byte {
-            return sort;
-        }
-        sort += 1;
+const fn value(role: u8, byte: u8) -> u8 {
+    match role {
+        15..=17 => match punched(role, byte) {
+            Some((digit, _)) => digit,
+            None => 0,
+        },
+        _ if byte.is_ascii_digit() => byte - b'0',
+        _ => 0,
     }
-    OTHER
 }
 
-/// The sorts that a role prints, plus and minus; it is no digit.
-const fn printed(role: u8) -> (u8, u8) {
-    (sort(PRINTED[0][role as usize]), sort(PRINTED[1][role as usize]))
+const fn sort(role: u8, byte: u8) -> u8 {
+    let digit = byte.is_ascii_digit();
+    match role {
+        0 if digit => NINE,
+        1 if byte == b'0' => ZERO,
+        1 if digit => DIGIT,
+        1 | 2 => hiding(byte, HIDDEN),
+        3..=5 | 11 | 13 => of_sign(role, byte, PLUS, MINUS),
+        12 | 14 => of_sign(role, byte, STILL_PLUS, STILL_MINUS),
+        10 if byte == b' ' => BLANK,
+        6..=9 if byte == PRINTED[0][role as usize] => ITSELF,
+        7..=10 => hiding(byte, INSIDE),
+        15..=17 => match punched(role, byte) {
+            Some((_, false)) => NINE_PLUS,
+            Some((_, true)) => NINE_MINUS,
+            None => WRONG,
+        },
+        _ => WRONG,
+    }
+}
+
+/// The sort of one of HIDING, where that of the first is given.
+const fn hiding(byte: u8, first: u8) -> u8 {
+    let mut k = 0;
+    while k < HIDING.len() {
+        if HIDING[k] == byte {
+            return first + k as u8;
+        }
+        k += 1;
+    }
+    WRONG
+}
+
+/// One of two sorts, by what the role prints.
+const fn of_sign(role: u8, byte: u8, plus: u8, minus: u8) -> u8 {
+    if byte == PRINTED[0][role as usize] {
+        plus
+    } else if byte == PRINTED[1][role as usize] {
+        minus
+    } else {
+        WRONG
+    }
+}
+
+/// The digit that a byte is under T, I or R, and whether it tells that the value is negative.
+const fn punched(role: u8, byte: u8) -> Option<(u8, bool)> {
+    let mut k = 0;
+    while k < 20 {
+        if PUNCHED[k / 10][role as usize - 15][k % 10] == byte {
+            return Some(((k % 10) as u8, k >= 10));
+        }
+        k += 1;
+    }
+    None
 }
 
 /// The state behind a position.
-const fn behind(state: u8, role: u8, sort: u8) -> u8 {
+const fn behind(state: u8, sort: u8) -> u8 {
     let (kind, phase) = (state / 8, state / 2 % 4);
-    match (kind, role, phase) {
-        (0, ..) => NONE,
-        (7, 0 | 1, _) if sort <= DIGIT => state,
-        (7, 0 | 1, _) => NONE,
-        (7, ..) | (_, 3..=10, BEFORE) => behind_printed(state, role, sort),
-        (_, 0, FILLED | DRIFTED) | (1 | 2, 1, BEFORE) | (_, 1, FILLED | DRIFTED) if sort <= DIGIT => {
-            behind_digit(state, role, sort)
-        }
-        (1 | 2, 1, BEFORE) | (_, 1, FILLED) | (3..=6, 2, BEFORE) | (_, 7..=10, FILLED) => behind_hidden(state, sort),
+    match (sort, phase) {
+        _ if kind == 0 => NONE,
+        (NINE | ZERO | DIGIT | V, _) if kind == 7 => state,
+        (V, OUTSIDE) if kind >= 3 => NONE,
+        (NINE | DIGIT | V, _) => behind_stretch(state),
+        (NINE_PLUS, _) => signed(behind(state, NINE), 0),
+        (NINE_MINUS, _) => signed(behind(state, NINE), 1),
+        (PLUS, OUTSIDE) => signed(state, 0),
+        (MINUS, OUTSIDE) => signed(state, 1),
+        (STILL_PLUS, OUTSIDE) if state & 1 == 0 => state,
+        (STILL_MINUS, OUTSIDE) if state & 1 == 1 => state,
+        (ITSELF | BLANK, OUTSIDE) => state,
+        (BLANK, FILLED) => behind_hidden(state, b' '),
+        (HIDDEN..=LAST_HIDDEN, OUTSIDE | FILLED) if kind != 7 => behind_hidden(state, HIDING[(sort - HIDDEN) as usize]),
+        (INSIDE..=LAST_INSIDE, FILLED) => behind_hidden(state, HIDING[(sort - INSIDE) as usize]),
         _ => NONE,
     }
 }
 
-/// Behind a symbol that prints: a sign, or the first letter of a mark, tells whether the value is negative.
-const fn behind_printed(state: u8, role: u8, sort: u8) -> u8 {
-    let (plus, minus) = printed(role);
-    let same = if state & 1 == 1 { minus } else { plus };
-    match role {
-        3..=5 | 11 | 13 if sort == plus => state & !1,
-        3..=5 | 11 | 13 if sort == minus => state | 1,
-        6..=10 | 12 | 14 if sort == same => state,
-        _ => NONE,
-    }
-}
-
-/// Behind the first digit that prints, which is no suppressible 0.
-const fn behind_digit(state: u8, role: u8, sort: u8) -> u8 {
-    if role == 1 && sort == ZERO {
+/// The state with the sign told.
+const fn signed(state: u8, minus: u8) -> u8 {
+    if state == NONE {
         NONE
     } else {
-        behind_stretch(state)
+        state & !1 | minus
     }
 }
 
 /// Behind the stretch. Where fill alone was seen of a drifting kind, its character was a blank, which tells the sign.
 const fn behind_stretch(state: u8) -> u8 {
-    let printing = PRINTING as u8;
     match (state / 8, state / 2 % 4) {
-        (1 | 2, _) | (_, DRIFTED) => printing | state & 1,
-        (4, _) => printing | 1,
-        (5, _) => printing,
+        (1 | 2, _) | (_, DRIFTED) => PRINTS | state & 1,
+        (4, _) => PRINTS | 1,
+        (5, _) => PRINTS,
         _ => NONE,
     }
 }
 
 /// Behind a position inside the stretch: fill, or the drifting character.
-const fn behind_hidden(state: u8, sort: u8) -> u8 {
+const fn behind_hidden(state: u8, byte: u8) -> u8 {
     let kind = state / 8;
-    let fill = if kind == 2 { ASTERISK } else { BLANK };
-    if sort == fill {
+    let fill = if kind == 2 { b'*' } else { b' ' };
+    if byte == fill {
         return kind * 8 + FILLED * 2 + state % 2;
     }
-    let (plus, minus) = printed(kind);
+    let (plus, minus) = (PRINTED[0][kind as usize], PRINTED[1][kind as usize]);
     let drifted = kind * 8 + DRIFTED * 2;
     match kind {
-        3 | 4 if sort == plus => drifted,
-        3 | 5 if sort == minus => drifted + 1,
-        6 if sort == plus => drifted + state % 2,
+        3 | 4 if byte == plus => drifted,
+        3 | 5 if byte == minus => drifted + 1,
+        6 if byte == plus => drifted + state % 2,
         _ => NONE,
     }
 }
 
-/// The state behind V, where a position stands behind it.
-const fn behind_v(state: u8) -> u8 {
-    match (state / 8, state / 2 % 4) {
-        (7, _) => state,
-        (3..=6, BEFORE) => NONE,
-        _ => behind_stretch(state),
-    }
-}
-
-static NEXT: [[[Step; 16]; 16]; 64] = {
-    let mut table = [[[0; 16]; 16]; 64];
+static NEXT: [[Step; 32]; 64] = {
+    let mut table = [[0; 32]; 64];
     let mut cell = 0;
-    while cell < 64 * 16 * 16 {
-        let (state, role, sort) = (cell / 256, cell / 16 % 16, cell % 16);
-        if sort <= OTHER as usize {
-            table[state][role][sort] = behind(state as u8, role as u8, sort as u8) as Step * ROWS;
-        }
+    while cell < 64 * 32 {
+        table[cell / 32][cell % 32] = behind((cell / 32) as u8, (cell % 32) as u8) as Step * ROW;
         cell += 1;
     }
     table
 };
 
-static BEHIND_V: [Step; 64] = {
-    let mut table = [0; 64];
-    let mut state = 0;
-    while state < 64 {
-        table[state] = behind_v(state as u8) as Step * ROWS;
-        state += 1;
-    }
-    table
-};
-
 /// The first state by kind: a field with nothing suppressible prints from the start.
-static START: [Step; 8] = [56 * ROWS, 8 * ROWS, 16 * ROWS, 24 * ROWS, 32 * ROWS, 40 * ROWS, 48 * ROWS, 0];
+static START: [Step; 8] = [56 * ROW, 8 * ROW, 16 * ROW, 24 * ROW, 32 * ROW, 40 * ROW, 48 * ROW, 0];
 
 #[inline(always)]
 pub fn start(kind: usize) -> usize {
     START[kind & 7] as usize
 }
 
+/// Where a byte under a role stands in the tables. One for both, so that it is found once.
+#[inline(always)]
+pub fn place(role: usize, byte: usize) -> usize {
+    role << 8 | byte
+}
+
 /// The step of a role and a character. The rest of the address is ready before the state is.
 ///
 /// # Safety
-/// The state is one of this machine, and the role below 16: then both are in the table.
+/// The state is one of this machine, and the place that of a low role and a byte: then both are in the tables.
 #[inline(always)]
-pub unsafe fn step(state: usize, role: usize, byte: usize) -> usize {
-    *NEXT.as_ptr().byte_add(32 * role + 2 * SORT[byte & 255] as usize).byte_add(state).cast::<Step>() as usize
+pub unsafe fn step(state: usize, place: usize) -> usize {
+    next(state, *SORT.get_unchecked(place) as usize)
+}
+
+/// The step of V, where a position stands behind it.
+///
+/// # Safety
+/// The state is one of this machine.
+#[inline(always)]
+pub unsafe fn step_v(state: usize) -> usize {
+    next(state, V as usize)
 }
 
 #[inline(always)]
-pub fn step_v(state: usize) -> usize {
-    BEHIND_V[number(state) & 63] as usize
+unsafe fn next(state: usize, sort: usize) -> usize {
+    *NEXT.as_ptr().byte_add(2 * sort).byte_add(state).cast::<Step>() as usize
 }
 
-/// The number of a state, as PRINTING is one.
+/// The digit that a byte is under its role; of one that is none the machine knows.
+///
+/// # Safety
+/// The place is that of a low role and a byte.
 #[inline(always)]
-pub fn number(state: usize) -> usize {
-    state / ROWS as usize
-}
-
-/// The digit that a byte is, 0 if it is none.
-#[inline(always)]
-pub fn digit(byte: usize) -> u64 {
-    VALUE[byte & 255] as u64
+pub unsafe fn digit(place: usize) -> u64 {
+    *VALUE.get_unchecked(place) as u64
 }

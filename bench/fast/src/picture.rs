@@ -4,7 +4,7 @@ use crate::judge::counted;
 use crate::plan::Field;
 use crate::{DIGITS, LONG, SHAPE, SYMBOL, TEXT};
 
-// The symbols of a text: 0 is none; static symbols, insertions and marks are one more than their role.
+// The symbols of a text: 0 is none; static symbols, insertions, marks and punched digits are one more than their role.
 const NINE: u8 = 1;
 const ZED: u8 = 2;
 const ASTERISK: u8 = 3;
@@ -12,7 +12,10 @@ const SIGN: u8 = 4; // S, +, - and $: 4 to 7
 const INSERTION: u8 = 8; // comma, period, slash and B: 8 to 11
 const CREDIT: u8 = 12;
 const DEBIT: u8 = 14;
-const V: u8 = 16;
+const PUNCHED: u8 = 16; // T, I and R: 16 to 18
+const V: u8 = 19;
+/// How many numbers there are, with 0.
+const ALL: usize = 20;
 
 static SYMBOLS: [u8; 256] = {
     let mut table = [0u8; 256];
@@ -27,6 +30,9 @@ static SYMBOLS: [u8; 256] = {
     table[b'.' as usize] = INSERTION + 1;
     table[b'/' as usize] = INSERTION + 2;
     table[b'B' as usize] = INSERTION + 3;
+    table[b'T' as usize] = PUNCHED;
+    table[b'I' as usize] = PUNCHED + 1;
+    table[b'R' as usize] = PUNCHED + 2;
     table[b'V' as usize] = V;
     table
 };
@@ -34,7 +40,7 @@ static SYMBOLS: [u8; 256] = {
 /// What is known of a picture behind its symbols.
 struct Symbols {
     /// How many there are of each.
-    count: [usize; 17],
+    count: [usize; ALL],
     /// All but V, and those of them before the first V.
     n: usize,
     v: usize,
@@ -74,7 +80,7 @@ unsafe fn symbols(text: &[u8], room: *mut u8) -> Result<Symbols, u64> {
         [rest @ .., b'D', b'B'] => (rest, DEBIT),
         _ => (text, 0),
     };
-    let mut count = [0; 17];
+    let mut count = [0; ALL];
     let (mut n, mut v) = (0, usize::MAX);
     let mut at = 0;
     while at < text.len() {
@@ -111,7 +117,7 @@ unsafe fn symbols(text: &[u8], room: *mut u8) -> Result<Symbols, u64> {
     Ok(Symbols { count, n, v, mark })
 }
 
-/// A factor behind its parenthesis: how many times, and where its symbol stands, which is no V.
+/// A factor behind its parenthesis: how many times, and where its symbol stands, which is no V and no R.
 #[inline(always)]
 fn factor(text: &[u8], at: usize) -> Result<(usize, usize), u64> {
     let digit = |at: usize| text.get(at).map_or(10, |byte| byte.wrapping_sub(b'0')) as usize;
@@ -125,7 +131,7 @@ fn factor(text: &[u8], at: usize) -> Result<(usize, usize), u64> {
         at += 1;
     }
     let closed = text.get(at) == Some(&b')');
-    if times.wrapping_sub(1) >= 64 || !closed || text.get(at + 1) == Some(&b'V') || at + 1 >= text.len() {
+    if times.wrapping_sub(1) >= 64 || !closed || matches!(text.get(at + 1), Some(b'V' | b'R') | None) {
         return Err(SYMBOL);
     }
     Ok((times, at + 1))
@@ -133,7 +139,7 @@ fn factor(text: &[u8], at: usize) -> Result<(usize, usize), u64> {
 
 /// The kind, if all that is suppressible is of one, and there is one V at most.
 #[inline(always)]
-fn kind(count: &[usize; 17], drift: usize) -> Result<usize, u64> {
+fn kind(count: &[usize; ALL], drift: usize) -> Result<usize, u64> {
     let (zeds, asterisks) = (count[ZED as usize] != 0, count[ASTERISK as usize] != 0);
     let drifting = (4..8).filter(|&symbol| count[symbol] >= 2).count();
     if count[V as usize] > 1 || zeds as usize + asterisks as usize + drifting > 1 {
@@ -150,10 +156,10 @@ fn kind(count: &[usize; 17], drift: usize) -> Result<usize, u64> {
 /// Symbols to roles, in place: the first drifting symbol has a role of its own.
 ///
 /// # Safety
-/// The room has n symbols, each 16 at most: then each has a role.
+/// The room has n symbols.
 #[inline(always)]
 unsafe fn roles(room: *mut u8, n: usize, drift: usize) {
-    let mut role = [0u8, 0, 1, 1, 3, 4, 5, 6, 7, 8, 9, 10, 11, 12, 13, 14, 15];
+    let mut role: [u8; ALL] = [0, 0, 1, 1, 3, 4, 5, 6, 7, 8, 9, 10, 11, 12, 13, 14, 15, 16, 17, 0];
     if drift != 0 {
         role[drift] = 2;
     }

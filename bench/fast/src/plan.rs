@@ -3,7 +3,10 @@
 use crate::FIELDS;
 use std::ptr;
 
-/// A plan whose lengths fit each other and whose roles are all below 16.
+/// A role is low, below this; those from 18 on break every shape.
+pub const ROLES: usize = 32;
+
+/// A plan whose lengths fit each other and whose roles are all low.
 #[derive(Clone, Copy)]
 pub struct Plan {
     pub fields: usize,
@@ -54,7 +57,7 @@ impl Plan {
     }
 }
 
-/// Whether no byte of n is above 15, by words, the last of which may go over some bytes again.
+/// Whether all of n bytes are below ROLES, by words, the last of which may go over some bytes again.
 ///
 /// # Safety
 /// There are n bytes.
@@ -76,5 +79,5 @@ unsafe fn all_low(bytes: *const u8, n: usize) -> bool {
             all |= *bytes.add(at) as u64;
         }
     }
-    all & 0xf0f0_f0f0_f0f0_f0f0 == 0
+    all & 0xe0e0_e0e0_e0e0_e0e0 == 0
 }

@@ -3,8 +3,8 @@
 //! value.
 
 use crate::judge::judge;
-use crate::look::{self, PRINTING};
-use crate::plan::{Field, Plan};
+use crate::look::{self, NEGATIVE, PRINTING};
+use crate::plan::{Field, Plan, ROLES};
 use crate::shape;
 use crate::{refusal, success, CONVERSION, FIELDS, LENGTH, PLAN, ROOM};
 use std::mem::MaybeUninit;
@@ -32,7 +32,8 @@ pub fn read(plan: &[u8], record: &[u8], row: &mut [u8]) -> u64 {
             let characters = unsafe { record.as_ptr().add(at) };
             // In bounds: the roles are low and within the plan's, and there are as many characters.
             let walk = unsafe { Walk::over::<true>(field, characters) };
-            if !walk.good(field.n) {
+            // In bounds: the walk was over this field.
+            if !unsafe { walk.good(field.n) } {
                 return refusal(PLAN, 0);
             }
             // In bounds: the walk was over this field and these characters.
@@ -73,7 +74,12 @@ pub unsafe fn written(numbers: &Numbers, fields: usize, refused: usize, row: &mu
 }
 
 /// By role: ten for a digit, one for another. A table, since comparing takes more instructions.
-static TEN: [u64; 16] = [10, 10, 1, 1, 1, 1, 1, 1, 1, 1, 1, 1, 1, 1, 1, 1];
+static TEN: [u64; ROLES] = {
+    let mut table = [1; ROLES];
+    (table[0], table[1]) = (10, 10);
+    (table[15], table[16], table[17]) = (10, 10, 10);
+    table
+};
 
 /// Both machines and the value, over some positions of a field.
 #[derive(Clone, Copy)]
@@ -114,9 +120,10 @@ impl Walk {
             if JUDGED {
                 self.shape = shape::step(self.shape, role);
             }
-            self.look = look::step(self.look, role, byte);
+            let place = look::place(role, byte);
+            self.look = look::step(self.look, place);
             let ten = *TEN.get_unchecked(role);
-            self.value = self.value.wrapping_mul(ten).wrapping_add(look::digit(byte));
+            self.value = self.value.wrapping_mul(ten).wrapping_add(look::digit(place));
             if JUDGED {
                 self.tens += ten;
             }
@@ -127,8 +134,11 @@ impl Walk {
     }
 
     /// Whether the shape of the field, of n positions, is right.
+    ///
+    /// # Safety
+    /// The walk is over the field.
     #[inline(always)]
-    fn good(&self, n: usize) -> bool {
+    unsafe fn good(&self, n: usize) -> bool {
         (shape::end(self.shape) != 0) & (self.tens - n as u64 <= 9 * 15)
     }
 
@@ -138,15 +148,14 @@ impl Walk {
     /// The walk is over this field and these characters.
     #[inline(always)]
     pub unsafe fn number(&self, field: Field, characters: *const u8) -> Option<i64> {
-        let look = look::number(self.look);
         if self.value == 0 {
-            return is_zero(look, field.kind, field.roles, characters, field.n).then_some(0);
+            return is_zero(self.look, field.kind, field.roles, characters, field.n).then_some(0);
         }
-        if look & !1 != PRINTING {
+        if self.look & !NEGATIVE != PRINTING {
             return None;
         }
         let m = self.value as i64;
-        Some(if look & 1 != 0 { -m } else { m })
+        Some(if self.look & NEGATIVE != 0 { -m } else { m })
     }
 }
 
@@ -161,7 +170,7 @@ unsafe fn is_zero(look: usize, kind: usize, roles: *const u8, characters: *const
     let mut nine = false;
     let mut other = 0;
     for at in 0..n {
-        nine |= *roles.add(at) == 0;
+        nine |= matches!(*roles.add(at), 0 | 15..=17);
         other |= *characters.add(at) ^ fill;
     }
     if nine {

@@ -2,9 +2,16 @@
 //!
 //! The machine ends well exactly when roles, V and kind are those of a picture with a digit. The most digits are asked apart.
 
+use crate::plan::ROLES;
+
 /// A state is the offset in bytes of its row in the table, so that a step is one addition and one load.
 type Step = u16;
-const ROW: Step = 32;
+const ROW: Step = 2 * COLUMNS as Step;
+
+// The columns: the roles, then V and the end.
+const V: usize = ROLES;
+const END: usize = ROLES + 1;
+const COLUMNS: usize = ROLES + 2;
 
 // The phases of a field: what has been seen of it.
 const BROKEN: u8 = 0; //     a rule is broken
@@ -51,6 +58,7 @@ const fn behind(state: u8, role: u8) -> u8 {
         12 if phase == MARK_C => MARKED | used,
         13 => behind_first_letter(phase, used, MARK_D),
         14 if phase == MARK_D => MARKED | used,
+        15..=17 if used & SIGN == 0 && behind(state, 0) != BROKEN => NINES | used | SIGN,
         _ => BROKEN,
     }
 }
@@ -75,7 +83,7 @@ const fn behind_first_letter(phase: u8, used: u8, own: u8) -> u8 {
     }
 }
 
-/// The state behind V, where a position stands behind it.
+/// The state behind V.
 const fn behind_v(state: u8) -> u8 {
     let used = state & 48;
     match state & 15 {
@@ -87,7 +95,7 @@ const fn behind_v(state: u8) -> u8 {
     }
 }
 
-/// 0 where a field may not end, else 1, or 3 if it has a sign.
+/// What `end` says.
 const fn ending(state: u8) -> u8 {
     match state & 15 {
         SUPPRESSED | NINES | STATIC | MARKED | MIXED_V | ALL_V => 1 + 2 * (state & SIGN != 0) as u8,
@@ -95,32 +103,17 @@ const fn ending(state: u8) -> u8 {
     }
 }
 
-static NEXT: [[Step; 16]; 64] = {
-    let mut table = [[0; 16]; 64];
+static NEXT: [[Step; COLUMNS]; 64] = {
+    let mut table = [[0; COLUMNS]; 64];
     let mut cell = 0;
-    while cell < 64 * 16 {
-        table[cell / 16][cell % 16] = behind((cell / 16) as u8, (cell % 16) as u8) as Step * ROW;
+    while cell < 64 * COLUMNS {
+        let (state, column) = (cell / COLUMNS, cell % COLUMNS);
+        table[state][column] = match column {
+            V => behind_v(state as u8) as Step * ROW,
+            END => ending(state as u8) as Step,
+            role => behind(state as u8, role as u8) as Step * ROW,
+        };
         cell += 1;
-    }
-    table
-};
-
-static BEHIND_V: [Step; 64] = {
-    let mut table = [0; 64];
-    let mut state = 0;
-    while state < 64 {
-        table[state] = behind_v(state as u8) as Step * ROW;
-        state += 1;
-    }
-    table
-};
-
-static ENDING: [u8; 64] = {
-    let mut table = [0; 64];
-    let mut state = 0;
-    while state < 64 {
-        table[state] = ending(state as u8);
-        state += 1;
     }
     table
 };
@@ -145,19 +138,26 @@ pub fn start(kind: usize) -> usize {
 /// The step of a role. The rest of the address is ready before the state is.
 ///
 /// # Safety
-/// The state is one of this machine, and the role below 16: then both are in the table.
+/// The state is one of this machine, and the role is low: then its cell is in the table.
 #[inline(always)]
 pub unsafe fn step(state: usize, role: usize) -> usize {
     *NEXT.as_ptr().byte_add(2 * role).byte_add(state).cast::<Step>() as usize
 }
 
+/// The step of V, where a position stands behind it.
+///
+/// # Safety
+/// The state is one of this machine.
 #[inline(always)]
-pub fn step_v(state: usize) -> usize {
-    BEHIND_V[(state / ROW as usize) & 63] as usize
+pub unsafe fn step_v(state: usize) -> usize {
+    step(state, V)
 }
 
-/// Not 0 where a field may end.
+/// 0 where a field may not end, else 1, or 3 if it has a sign.
+///
+/// # Safety
+/// The state is one of this machine.
 #[inline(always)]
-pub fn end(state: usize) -> u8 {
-    ENDING[(state / ROW as usize) & 63]
+pub unsafe fn end(state: usize) -> usize {
+    step(state, END)
 }

@@ -21,6 +21,6 @@ fn change(random: &mut Random, plan: &mut [u8]) {
         0 => random.byte(),
         1 => plan[at].wrapping_add(1),
         2 => plan[at].wrapping_sub(1),
-        _ => random.below(16) as u8,
+        _ => random.below(19) as u8,
     };
 }

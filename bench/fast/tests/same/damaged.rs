@@ -9,8 +9,8 @@ use second::rules_of_shape::Picture;
 
 const PLANS: usize = 200;
 /// Every role, kind and V of a short field, and the edges of counts, lengths and bytes.
-const BYTES: [u8; 28] =
-    [0, 1, 2, 3, 4, 5, 6, 7, 8, 9, 10, 11, 12, 13, 14, 15, 16, 17, 31, 32, 33, 62, 63, 64, 65, 127, 128, 255];
+const BYTES: [u8; 29] =
+    [0, 1, 2, 3, 4, 5, 6, 7, 8, 9, 10, 11, 12, 13, 14, 15, 16, 17, 18, 31, 32, 33, 62, 63, 64, 65, 127, 128, 255];
 
 #[test]
 fn every_byte() {
@@ -35,12 +35,13 @@ fn every_byte() {
     assert!(good > 20 * PLANS && bad > 100 * PLANS, "{good} good, {bad} bad");
 }
 
-/// The plan of one to three pictures, marks among them more often than by chance.
+/// The plan of one to three pictures, marks and punched signs among them more often than by chance.
 fn short_plan(random: &mut Random) -> Vec<u8> {
     loop {
         let mut texts: Vec<Vec<u8>> = (0..random.between(1, 3)).map(|_| pictures::accepted(random)).collect();
         if random.percent(30) {
-            texts[0] = random.pick(&["ZZ9CR", "9V9DB", "$$9V.99CR", "**DB", "9,CR"]).into();
+            texts[0] =
+                random.pick(&["ZZ9CR", "9V9DB", "$$9V.99CR", "**DB", "9,CR", "ZZT", "9V9I", "$$R.V9", "T9"]).into();
         }
         let pictures: Result<Vec<Picture>, _> = texts.iter().map(|text| Picture::of(text)).collect();
         let plan = plan_of(&pictures.expect("accepted pictures"));
@@ -63,8 +64,10 @@ fn refused(bytes: &[u8]) {
 fn runs(random: &mut Random, plan: Vec<u8>) {
     let fields = usize::from(plan[0]);
     let total = plan.len() - 3 - 3 * fields;
-    let row: Vec<u8> = (0..fields).flat_map(|_| (random.below(12) as i64).to_le_bytes()).collect();
-    let edit = Case::PlanEdit { plan: plan.clone(), row, record: lent(total) };
-    same(&edit);
-    same(&Case::PlanRead { plan, record: edit.answer().memory, row: lent(8 * fields) });
+    for least in [0, -11] {
+        let row: Vec<u8> = (0..fields).flat_map(|_| (least + random.below(12) as i64).to_le_bytes()).collect();
+        let edit = Case::PlanEdit { plan: plan.clone(), row, record: lent(total) };
+        same(&edit);
+        same(&Case::PlanRead { plan: plan.clone(), record: edit.answer().memory, row: lent(8 * fields) });
+    }
 }
