@@ -7,7 +7,7 @@
  *     gcc -std=c11 program.c $(pkg-config --cflags --libs morvenka) -o program
  *
  * WORDS
- *   picture  an ASCII text of 1 to 128 bytes, such as ZZ9V.99 or $$,$$9 or (3)9CR. It has no zero byte at its end.
+ *   picture  an ASCII text of 1 to 128 bytes, such as ZZ9V.99 or $$,$$9 or (3)9CR or 9999V9T. It has no zero byte at its end.
  *   n        the characters of the picture's field, 1 to 64: its symbols other than V, with the factors written out.
  *   f        the scale of the field: the number of its digits after V, 0 without V.
  *   value    M / 10^q, by a whole number M of 15 digits at most and a scale q of 0 to 15.
@@ -55,9 +55,9 @@ extern "C" {
 #endif
 
 /* The version of this header and its library, as text and as numbers; docs/COLLECTOR.md says what changes which number. */
-#define MORVENKA_VERSION "1.0.0"
+#define MORVENKA_VERSION "1.1.0"
 #define MORVENKA_VERSION_MAJOR 1
-#define MORVENKA_VERSION_MINOR 0
+#define MORVENKA_VERSION_MINOR 1
 #define MORVENKA_VERSION_PATCH 0
 
 /* The numbers that come back. */
@@ -158,7 +158,8 @@ uint64_t morvenka_plan_edit(const uint8_t *plan, size_t plan_len, const uint8_t 
  * record length, or for the scale before the end of the field.
  *
  * A plan is the number of fields in one byte; for each field three bytes, which are n, how many of its positions stand before V, and a
- * kind; the record length in two bytes, the high one first; then one byte for each position of the record, 0 or 1 where it is a digit.
+ * kind; the record length in two bytes, the high one first; then one byte for each position of the record, its role. The roles of
+ * digits are 0 and 1, and 15, 16 and 17 for T, I and R.
  */
 
 /* The number of fields. */
@@ -199,8 +200,10 @@ static inline size_t morvenka_field_scale(const uint8_t *plan, size_t plan_len, 
     size_t first = 3 + 3 * morvenka_plan_fields(plan, plan_len) + morvenka_field_offset(plan, plan_len, field);
     if (width == 0 || plan_len < first + width)
         return 0;
-    for (size_t position = plan[3 * field - 1]; position < width; position++)
-        scale += plan[first + position] <= 1;
+    for (size_t position = plan[3 * field - 1]; position < width; position++) {
+        uint8_t role = plan[first + position];
+        scale += role <= 1 || (role >= 15 && role <= 17);
+    }
     return scale;
 }
 

@@ -7,14 +7,17 @@
 
 #include "morvenka.h"
 
-enum { FIELDS = 3 };
+enum { FIELDS = 4 };
 
-/* The weight with two places, the price with two places and a credit mark, the number of the lot. */
-static const char layout[] = "ZZ,ZZ9V.99;$$,$$9V.99CR;(3)Z9;";
+/*
+ * The weight with two places, the price with two places and a credit mark, the number of the lot, a bonus with two places and its sign
+ * punched over the last digit.
+ */
+static const char layout[] = "ZZ,ZZ9V.99;$$,$$9V.99CR;(3)Z9;9999V9T;";
 
-static const char weighed[] = " 1,250.50" "  $312.62CR" "  42";
-static const char corrected[] = "     0.75" "    $0.05CR" "  43";
-static const char missed[] = "         " "  $312.62CR" "  44";
+static const char weighed[] = " 1,250.50" "  $312.62CR" "  42" "00184C";
+static const char corrected[] = "     0.75" "    $0.05CR" "  43" "00245}";
+static const char missed[] = "         " "  $312.62CR" "  44" "00000{";
 
 static uint8_t plan[MORVENKA_PLAN_MAX];
 static size_t plan_length;

@@ -79,9 +79,9 @@ try {
 
 int main()
 {
-    Layout layout("ZZ,ZZ9V.99;$$,$$9V.99CR;(3)Z9;");
+    Layout layout("ZZ,ZZ9V.99;$$,$$9V.99CR;(3)Z9;9999V9T;");
     std::printf("layout: %zu fields, %zu characters\n", layout.fields(), layout.record());
-    show(layout, "weighed", " 1,250.50" "  $312.62CR" "  42");
-    show(layout, "corrected", "     0.75" "    $0.05CR" "  43");
-    show(layout, "missed", "         " "  $312.62CR" "  44");
+    show(layout, "weighed", " 1,250.50" "  $312.62CR" "  42" "00184C");
+    show(layout, "corrected", "     0.75" "    $0.05CR" "  43" "00245}");
+    show(layout, "missed", "         " "  $312.62CR" "  44" "00000{");
 }

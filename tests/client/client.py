@@ -4,6 +4,7 @@ import decimal
 import struct
 
 PLAN_MAX, RECORD_MAX = 2147, 2048  # sizes that suffice for anything accepted
+DIGITS = 0, 1, 15, 16, 17  # the roles of digits in a plan
 NAMES = "OK TEXT SYMBOL LONG SHAPE DIGITS VALUE ROOM SIZE LENGTH CONVERSION COUNT PLAN INPUT".split()
 
 library = ctypes.CDLL("libmorvenka.so.1")
@@ -49,7 +50,7 @@ def scale(plan, field):
     """The scale of a field, counted from 1, by the bytes of an accepted plan."""
     first = 3 + 3 * plan[0] + sum(width(plan, before) for before in range(1, field))
     vee = plan[3 * field - 1]
-    return sum(role <= 1 for role in plan[first + vee : first + width(plan, field)])
+    return sum(role in DIGITS for role in plan[first + vee : first + width(plan, field)])
 
 
 def show(plan, what, record):
@@ -60,12 +61,12 @@ def show(plan, what, record):
     print(f'{what}: "{edited(plan, numbers).decode()}"')
 
 
-plan = compiled(b"ZZ,ZZ9V.99;$$,$$9V.99CR;(3)Z9;")
+plan = compiled(b"ZZ,ZZ9V.99;$$,$$9V.99CR;(3)Z9;9999V9T;")
 print(f"layout: {plan[0]} fields, {sum(width(plan, field) for field in range(1, plan[0] + 1))} characters")
 for what, record in (
-    ("weighed", b" 1,250.50  $312.62CR  42"),
-    ("corrected", b"     0.75    $0.05CR  43"),
-    ("missed", b"           $312.62CR  44"),
+    ("weighed", b" 1,250.50  $312.62CR  4200184C"),
+    ("corrected", b"     0.75    $0.05CR  4300245}"),
+    ("missed", b"           $312.62CR  4400000{"),
 ):
     try:
         show(plan, what, record)

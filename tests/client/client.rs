@@ -12,6 +12,9 @@ const PLAN_MAX: usize = 2147;
 const RECORD_MAX: usize = 2048;
 const ROW_MAX: usize = 8 * 32;
 
+// The roles of digits in a plan.
+const DIGITS: [u8; 5] = [0, 1, 15, 16, 17];
+
 const NAMES: [&str; 14] = [
     "OK", "TEXT", "SYMBOL", "LONG", "SHAPE", "DIGITS", "VALUE", "ROOM", "SIZE", "LENGTH", "CONVERSION", "COUNT", "PLAN", "INPUT",
 ];
@@ -54,7 +57,7 @@ fn scale(plan: &[u8], field: usize) -> usize {
     let width = |field: usize| plan[3 * field - 2] as usize;
     let first = 3 + 3 * plan[0] as usize + (1..field).map(width).sum::<usize>();
     let vee = plan[3 * field - 1] as usize;
-    plan[first + vee..first + width(field)].iter().filter(|&&role| role <= 1).count()
+    plan[first + vee..first + width(field)].iter().filter(|role| DIGITS.contains(role)).count()
 }
 
 /// A number of a row with its point: 125050 at scale 2 is 1250.50, and -5 is -0.05.
@@ -74,13 +77,13 @@ fn show(plan: &[u8], what: &str, record: &str) -> Result<(), String> {
 }
 
 fn main() {
-    let plan = compile("ZZ,ZZ9V.99;$$,$$9V.99CR;(3)Z9;").expect("the layout");
+    let plan = compile("ZZ,ZZ9V.99;$$,$$9V.99CR;(3)Z9;9999V9T;").expect("the layout");
     let record_length: usize = (1..=plan[0] as usize).map(|field| plan[3 * field - 2] as usize).sum();
     println!("layout: {} fields, {record_length} characters", plan[0]);
     let records = [
-        ("weighed", " 1,250.50  $312.62CR  42"),
-        ("corrected", "     0.75    $0.05CR  43"),
-        ("missed", "           $312.62CR  44"),
+        ("weighed", " 1,250.50  $312.62CR  4200184C"),
+        ("corrected", "     0.75    $0.05CR  4300245}"),
+        ("missed", "           $312.62CR  4400000{"),
     ];
     for (what, record) in records {
         show(&plan, what, record).unwrap_or_else(|refusal| println!("{what}: {refusal}"));
