@@ -24,7 +24,8 @@ unfoldable pub soFar : (ℕ → Bool) → ℕ → Bool
 soFar p zero = true
 soFar p (suc k) = soFar p k && p k
 
--- a position more that prints: by the sign, what it shows of the digit that it shows; a mark more; and a bare digit more, whose character is a digit
+-- a position more that prints, asked for each sign whether its character is what the role prints of the digit in it; a mark more; and a bare digit
+-- more, whose character is a digit
 unfoldable pub printStep : Said → ℕ → ℕ → Said
 printStep s r c = record {
   value = cond (isDigit r) (s .value * 10 + digitIn c) (s .value);

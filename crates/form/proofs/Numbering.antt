@@ -11,7 +11,7 @@ use lib.ListN.{getD}
 use Rattle.rules.specs.Words.{text, has, one, times, place, same}
 use Rattle.rules.specs.Text.{theV, isMark}
 use Rattle.rules.specs.Roles.{lastKind}
-use Rattle.rules.specs.Form.{numbered, punched, number, numbers, suppresses, kindUpTo}
+use Rattle.rules.specs.Form.{numbered, punchedLetters, number, numbers, suppresses, kindUpTo}
 use Rattle.rules.specs.Shape.{drifting, oneDrifts, suppressionApart}
 use Rattle.rules.specs.Good.{suppressing}
 use Rattle.rules.proofs.Logic.{by-test, by-or, both}
@@ -42,7 +42,7 @@ module _ (k : ℕ) (p : 1 ≤ k) (q : k ≤ 6) where
   -- a number of a kind is a place among the numbered symbols
   number-at : (b : ℕ) → k ≡ number b → getD numbered (number b) 0 ≡ b
   unfolding number
-  number-at b n = by-test (has b numbered) (λ e. rw e (has-place b numbered e .1)) (λ e. let z : k ≡ 15 + place b punched = rw e at n in absurd (omega arith))
+  number-at b n = by-test (has b numbered) (λ e. rw e (has-place b numbered e .1)) (λ e. let z : k ≡ 15 + place b punchedLetters = rw e at n in absurd (omega arith))
 
   -- a position has number k exactly where it has the symbol of kind k
   number-letter : (b : ℕ) → eqb k (number b) ≡ eqb (kindLetter k) b

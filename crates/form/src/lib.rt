@@ -142,7 +142,7 @@ pub fn one_suppresses(picture: Picture) -> bool
     found.kinds <= 1
 }
 
-// The number of a symbol that is no V and no mark. The marks' letters have 11 to 14; a byte that is no symbol gets 18.
+// The number of a symbol that is no V and no mark; any other byte gets 18. The numbers 11 to 14 are those of the marks' letters.
 fn number_of(symbol: u8) -> u8
     ensures { λ r. ⌜ r ≡ number symbol ⌝ }
 {

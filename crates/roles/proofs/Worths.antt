@@ -1,4 +1,4 @@
--- What a byte tells of the lists, its digit and its list, by the stretches of the character set in which they lie: two tests that are computed over
+-- What a byte tells of the lists, its digit and its list, by the ranges of the character set in which they lie: two tests that are computed over
 -- all bytes. Assumes nothing.
 use mathlib.Core.Path.{_≡_, refl, sym, _∙_}
 use mathlib.Core.Bool.{cond}

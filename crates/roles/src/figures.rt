@@ -38,7 +38,7 @@ pub fn is_decimal(c: u8) -> bool
     (b'0' <= c) & (c <= b'9')
 }
 
-// What a character is worth as a digit, from whichever list; one that is in none is worth 0. Each list but for its braces is a stretch of the
+// What a character is worth as a digit, from whichever list; one that is in none is worth 0. Each list but for its braces is a range of the
 // character set, the last two one behind the other, so that the table need not be searched.
 pub fn digit_in(c: u8) -> u8
     ensures { λ r. ⌜ (r ≡ digitIn c) × (r < 10) ⌝ }

@@ -8,7 +8,7 @@ ghost use Prim.Native.Nat.{_≤_, _<_, min};
 ghost use Rattle.rules.specs.Words.{one};
 ghost use Rattle.rules.specs.Roles.{isPunched, isNine, isDigit, isBare, opens, isSign, drifts, driftsSign};
 
-// T, I and R.
+// T, I and R; a byte past the roles counts as one, and no form with it is good.
 pub fn is_punched(role: u8) -> bool
     ensures { λ r. ⌜ r ≡ isPunched role ⌝ }
 {

@@ -2,18 +2,18 @@
 -- forms of a sign differ. The rule of the lists is one test, and facts about roles are found by computing over all the roles there are. Assumes nothing.
 use mathlib.Core.Path.{_≡_, refl, sym, _∙_, ap}
 use mathlib.Core.Bool.{Bool, true, false, cond, not, _&&_, _||_, true≢false, and-true, or-true}
-use mathlib.Core.List.{List, [], _∷_}
-use Prim.Native.Nat.{ℕ, suc, _+_, _*_, _/_, _%_, _<_, _≤_}
+use Prim.Native.Nat.{ℕ, _+_, _*_, _/_, _%_, _<_, _≤_}
 use native.Mathlib.Omega.{arith}
 use Prim.Native.Char.{code}
 use borrow.Author.Tests.{leb-true, eq-eqb, eqb-true, eqb-false, le-leb, ne-eqb, not-true}
 use lib.Dec.{leb, eqb}
-use lib.ListN.{length, getD}
+use lib.ListN.{getD}
 use Rattle.rules.specs.Words.{place}
 use Rattle.rules.specs.Search.{each, first}
 use Rattle.rules.specs.Roles.{drifts, driftsSign, isBare, isDigit, isNine, isPunched, isSign, isSuppressible, roleLimit}
 use Rattle.rules.specs.Edit.{digitChar, figures, fill, listOf, mark, printed, suppressed}
 use Rattle.rules.specs.Candidate.{digitIn, listIn}
+use Rattle.rules.proofs.Lists.{place-holds}
 use Rattle.rules.proofs.Search.{each-at}
 use Rattle.rules.proofs.Logic.{and-at, both, by-test}
 
@@ -43,12 +43,6 @@ unfolding digitIn
 digit-shows r neg d h = rw (digit-place r neg d h) (omega arith)
 
 -- and a character is what its digit prints exactly where it stands in that list
-place-holds : (x : ℕ) (l : List ℕ) → place x l < length l → getD l (place x l) 0 ≡ x
-unfolding place
-place-holds x [] h = absurd (omega arith)
-place-holds x (y ∷ ys) h =
-    by-test (eqb x y) (λ e. rw e (sym (eqb-true x y e))) (λ e. let z : suc (place x ys) < suc (length ys) = rw e at h in rw e (place-holds x ys (omega arith)))
-
 held : (r : ℕ) (neg : Bool) (c : ℕ) → 10 * listOf r neg + place c figures % 10 ≡ place c figures → place c figures < 30 → digitChar r neg (place c figures % 10) ≡ c
 unfolding digitChar
 held r neg c z l = rw z (place-holds c figures l)
@@ -69,22 +63,22 @@ list-tells r neg c =
     eqb-false (place c figures / 10) (listOf r neg) e (omega arith)))))
 
 -- where nothing is punched the digit prints as it is
-not-punched : (r k : ℕ) → isPunched r ≡ false → isPunched k ≡ true → eqb r k ≡ false
-not-punched r k h p = ne-eqb r k (λ e. true≢false (sym p ∙ ap isPunched (sym e) ∙ h))
+other-role : (r k : ℕ) → isPunched r ≡ false → isPunched k ≡ true → eqb r k ≡ false
+other-role r k h p = ne-eqb r k (λ e. true≢false (sym p ∙ ap isPunched (sym e) ∙ h))
 
-plain-list : (r : ℕ) (neg : Bool) → isPunched r ≡ false → listOf r neg ≡ 0
+unpunched-list : (r : ℕ) (neg : Bool) → isPunched r ≡ false → listOf r neg ≡ 0
 unfolding listOf
-plain-list r neg h =
-    rw (not-punched r 15 h (unfold isPunched in refl), not-punched r 16 h (unfold isPunched in refl), not-punched r 17 h (unfold isPunched in refl))
+unpunched-list r neg h =
+    rw (other-role r 15 h (unfold isPunched in refl), other-role r 16 h (unfold isPunched in refl), other-role r 17 h (unfold isPunched in refl))
 
-plain-char : (r : ℕ) (neg : Bool) (d : ℕ) → isPunched r ≡ false → d < 10 → digitChar r neg d ≡ 48 + d
+unpunched-char : (r : ℕ) (neg : Bool) (d : ℕ) → isPunched r ≡ false → d < 10 → digitChar r neg d ≡ 48 + d
 unfolding digitChar first each
-plain-char r neg d h l = rw (plain-list r neg h) (eqb-true _ (48 + d) (each-at (λ j. eqb (getD figures (10 * 0 + j) 0) (48 + j)) 10 d refl l))
+unpunched-char r neg d h l = rw (unpunched-list r neg h) (eqb-true _ (48 + d) (each-at (λ j. eqb (getD figures (10 * 0 + j) 0) (48 + j)) 10 d refl l))
 
 -- What prints by its role: a bare digit as it is, a punched one from its lists, and all else its mark.
 pub printed-bare : (r : ℕ) (neg : Bool) (d : ℕ) → isBare r ≡ true → d < 10 → printed r neg d ≡ 48 + d
 unfolding isBare printed
-printed-bare r neg d b l = let w = both (isDigit r) _ b in rw (w .0) (plain-char r neg d (not-true _ (w .1)) l)
+printed-bare r neg d b l = let w = both (isDigit r) _ b in rw (w .0) (unpunched-char r neg d (not-true _ (w .1)) l)
 
 pub printed-punched : (r : ℕ) (neg : Bool) (d : ℕ) → isPunched r ≡ true → printed r neg d ≡ digitChar r neg d
 unfolding printed isDigit isNine

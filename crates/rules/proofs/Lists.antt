@@ -60,12 +60,20 @@ same-refl (x ∷ xs) = rw (eq-eqb x x refl, same-refl xs)
 pub eq-same : (a b : List ℕ) → a ≡ b → same a b ≡ true
 eq-same a b e = rw e (same-refl b)
 
-pub has-place : (x : ℕ) (l : List ℕ) → has x l ≡ true → (place x l < length l) × (getD l (place x l) 0 ≡ x)
+-- a place in a list holds what was looked for, and what stands in the list has one
+pub place-holds : (x : ℕ) (l : List ℕ) → place x l < length l → getD l (place x l) 0 ≡ x
+unfolding place
+place-holds x [] h = absurd (omega arith)
+place-holds x (y ∷ ys) h =
+    by-test (eqb x y) (λ e. rw e (sym (eqb-true x y e))) (λ e. let z : suc (place x ys) < suc (length ys) = rw e at h in rw e (place-holds x ys (omega arith)))
+
+has-lies : (x : ℕ) (l : List ℕ) → has x l ≡ true → place x l < length l
 unfolding has place
-has-place x [] h = absurd (true≢false (sym h))
-has-place x (y ∷ ys) h =
-    by-test (eqb x y) (λ e. (rw e (omega arith), rw e (sym (eqb-true x y e))))
-    (λ e. let w = has-place x ys (rw e at h) in (rw e (omega arith), rw e (w .1)))
+has-lies x [] h = absurd (true≢false (sym h))
+has-lies x (y ∷ ys) h = by-test (eqb x y) (λ e. rw e (omega arith)) (λ e. let w = has-lies x ys (rw e at h) in rw e (omega arith))
+
+pub has-place : (x : ℕ) (l : List ℕ) → has x l ≡ true → (place x l < length l) × (getD l (place x l) 0 ≡ x)
+has-place x l h = let w = has-lies x l h in (w, place-holds x l w)
 
 -- one part written behind the other is both written at once
 pub sets-append : (xs ys l : List ℕ) (i : ℕ) → sets l i (xs ++ ys) ≡ sets (sets l i xs) (i + length xs) ys

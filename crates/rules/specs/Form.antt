@@ -32,11 +32,11 @@ roleAt φ k = getD (φ .roles) k 0
 abbrev pub numbered : List ℕ
 numbered = text "9Z*S+-$,./B"
 
-abbrev pub punched : List ℕ
-punched = text "TIR"
+abbrev pub punchedLetters : List ℕ
+punchedLetters = text "TIR"
 
 unfoldable pub number : ℕ → ℕ
-number b = cond (has b numbered) (place b numbered) (15 + place b punched)
+number b = cond (has b numbered) (place b numbered) (15 + place b punchedLetters)
 
 -- the numbers of a picture's positions
 unfoldable pub numbers : List ℕ → List ℕ

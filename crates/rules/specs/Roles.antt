@@ -11,7 +11,7 @@ use lib.Dec.{leb, eqb}
 abbrev pub roleLimit : ℕ
 roleLimit = 18
 
--- RULES 2.3: T, I and R, the last of the roles
+-- RULES 2.3: T, I and R, the last of the roles; what is past them counts as one, and `plainNumber` refuses it
 unfoldable pub isPunched : ℕ → Bool
 isPunched r = leb 15 r
 

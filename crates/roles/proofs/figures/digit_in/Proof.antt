@@ -1,4 +1,4 @@
--- `digit_in`: the lists lie in stretches of the character set. Assumes nothing.
+-- `digit_in`: the lists lie in ranges of the character set. Assumes nothing.
 use borrow.Author.Needs.{needs}
 use native.Mathlib.Omega.{arith}
 use Rattle.rules.proofs.Decide.{decide}

@@ -1,4 +1,4 @@
--- `list_in`: the lists lie in stretches of the character set, but for their braces. Assumes nothing.
+-- `list_in`: the lists lie in ranges of the character set, but for their braces. Assumes nothing.
 use borrow.Author.Needs.{needs}
 use native.Mathlib.Omega.{arith}
 use Rattle.rules.proofs.Decide.{decide}
