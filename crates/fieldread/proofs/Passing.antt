@@ -14,22 +14,22 @@ use borrow.Author.Tests.{eq-eqb, eqb-false, eqb-true, le-leb, le-ltb, leb-false,
 use lib.Dec.{eqb, leb, ltb}
 use lib.ListN.{length, getD, take, drop, length-take}
 use lib.Seq.{take-length, take-suc}
-use Rattle.rules.specs.Words.{any, count, place, same}
-use Rattle.rules.specs.Search.{each, first, upTo}
+use Rattle.rules.specs.Words.{any, count, same}
+use Rattle.rules.specs.Search.{upTo}
 use Rattle.rules.specs.Digits.{valueOf}
 use Rattle.rules.specs.Text.{isDecimal}
-use Rattle.rules.specs.Roles.{drifts, isBare, isDigit, isFirstDrifting, isNine, isSuppressible, opens}
+use Rattle.rules.specs.Roles.{drifts, isBare, isDigit, isFirstDrifting, isNine, isPunched, isSuppressible, opens}
 use Rattle.rules.specs.Form.{Form, roleAt, size}
 use Rattle.rules.specs.Shape.{digitCount, mostDigits}
 use Rattle.rules.specs.Edit.{allSuppressible, cell, cellAt, digitAt, driftsTo, field, fill, inStretch, isBlank, mark, opening, printed, suppressed}
 use Rattle.rules.specs.Candidate.{digitIn, readOf, shown, shownIn, worthOf}
-use Rattle.rules.proofs.Characters.{digit-small, printed-bare}
+use Rattle.rules.proofs.Characters.{digit-shows, digit-small, fill-shows, printed-bare, unpunched-char}
 use Rattle.rules.proofs.Digits.{ten-le, ten-pos, value-digits, value-snoc}
 use Rattle.rules.proofs.Exact.{shown-small}
 use Rattle.rules.proofs.Fields.{field-blank, field-cells, shown-field, tail-at}
 use Rattle.rules.proofs.Lists.{same-eq}
 use Rattle.rules.proofs.Logic.{both, by-test, eqb-swap, neither}
-use Rattle.rules.proofs.Search.{each-at, first-least, length-upTo}
+use Rattle.rules.proofs.Search.{first-least, length-upTo}
 use Rattle.rules.proofs.Stretch.{early, stretch-from, stretch-in, stretch-to}
 use Rattle.fieldread.specs.declared.zones.Said.{Said}
 use Rattle.fieldread.specs.Zones.{Ahead, Filled, Hides, Led, Stopped, digitStep, fineAt, hasDrift, isFine, markStep, markedAt, printStep, saidAt, saidIn, sidesOf, soFar, startIn, valueTo, within}
@@ -94,8 +94,8 @@ same-places g f n l = let t : take n f ≡ f = rw (← l) (take-length f) in rw 
 
 -- Characters and roles.
 decimal-worth : (d : ℕ) → d < 10 → digitIn (48 + d) ≡ d
-unfolding digitIn place first each
-decimal-worth d l = eqb-true (digitIn (48 + d)) d (each-at (λ j. eqb (digitIn (48 + j)) j) 10 d refl l)
+unfolding isPunched
+decimal-worth d l = rw (unpunched-char 0 true d refl l) at (digit-shows 0 true d l)
 
 figure-is : (c : ℕ) → eqb (48 + digitIn c) c ≡ isDecimal c
 figure-is c =
@@ -118,8 +118,8 @@ unfolding isBare
 mark-bare r d = rw d
 
 fill-worth : (kind : ℕ) → digitIn (fill kind) ≡ 0
-unfolding fill digitIn place
-fill-worth kind = by-test (eqb kind 2) (λ e. rw e) (λ e. rw e)
+unfolding suppressed
+fill-worth kind = fill-shows kind 0
 
 -- the digit shown at a digit's position is that of the character there
 shown-at : (rs f : List ℕ) (k : ℕ) → k < length rs → isDigit (getD rs k 0) ≡ true → getD (shownIn rs f) (count isDigit (take k rs)) 0 ≡ digitIn (getD f k 0)

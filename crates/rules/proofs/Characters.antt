@@ -71,7 +71,7 @@ unfolding listOf
 unpunched-list r neg h =
     rw (other-role r 15 h (unfold isPunched in refl), other-role r 16 h (unfold isPunched in refl), other-role r 17 h (unfold isPunched in refl))
 
-unpunched-char : (r : ℕ) (neg : Bool) (d : ℕ) → isPunched r ≡ false → d < 10 → digitChar r neg d ≡ 48 + d
+pub unpunched-char : (r : ℕ) (neg : Bool) (d : ℕ) → isPunched r ≡ false → d < 10 → digitChar r neg d ≡ 48 + d
 unfolding digitChar first each
 unpunched-char r neg d h l = rw (unpunched-list r neg h) (eqb-true _ (48 + d) (each-at (λ j. eqb (getD figures (10 * 0 + j) 0) (48 + j)) 10 d refl l))
 
