@@ -1,4 +1,4 @@
--- What the characters of a field tell: a digit shows itself, from whichever list it prints, fill and drifting characters show none, and the two
+-- What the characters of a field tell: a digit shows itself, from whichever list it prints, hidden positions and drifting characters show none, and the two
 -- forms of a sign differ. The rule of the lists is one test, and facts about roles are found by computing over all the roles there are. Assumes nothing.
 use mathlib.Core.Path.{_≡_, refl, sym, _∙_, ap}
 use mathlib.Core.Bool.{Bool, true, false, cond, not, _&&_, _||_, true≢false, and-true, or-true}
@@ -10,7 +10,7 @@ use lib.Dec.{leb, eqb}
 use lib.ListN.{getD}
 use Rattle.rules.specs.Words.{place}
 use Rattle.rules.specs.Search.{each, first}
-use Rattle.rules.specs.Roles.{drifts, driftsSign, isBare, isDigit, isNine, isPunched, isSign, isSuppressible, roleLimit}
+use Rattle.rules.specs.Roles.{drifts, driftsSign, isB, isBare, isDigit, isNine, isPunched, isSign, isSuppressible, roleLimit}
 use Rattle.rules.specs.Edit.{digitChar, figures, fill, listOf, mark, printed, suppressed}
 use Rattle.rules.specs.Candidate.{digitIn, listIn}
 use Rattle.rules.proofs.Lists.{place-holds}
@@ -124,9 +124,23 @@ pub none-shows : digitIn 0 ≡ 0
 unfolding digitIn place
 none-shows = refl
 
-pub fill-shows : (kind r : ℕ) → digitIn (suppressed kind r) ≡ 0
+pub hidden-shows : (kind r : ℕ) → digitIn (suppressed kind r) ≡ 0
 unfolding digitIn place suppressed fill
-fill-shows kind r = elim (eqb kind 2) as (λ b. digitIn (cond b (code "*") (code " ")) ≡ 0) [ true ↦ refl | false ↦ refl ]
+hidden-shows kind r =
+    by-test (isB r)
+    (λ b. rw b)
+    (λ b. rw b (elim (eqb kind 2) as (λ b. digitIn (cond b (code "*") (code " ")) ≡ 0) [ true ↦ refl | false ↦ refl ]))
+
+-- where a symbol drifts, a hidden position shows a blank whatever it is
+pub hidden-blank : (kind r : ℕ) → drifts kind ≡ true → suppressed kind r ≡ code " "
+unfolding suppressed fill drifts
+hidden-blank kind r d =
+    let l = leb-true 3 kind (both (leb 3 kind) _ d .0) in
+    rw (ne-eqb kind 2 (λ q. omega arith)) (by-test (isB r) (λ b. rw b) (λ b. rw b))
+
+pub b-no-digit : (r : ℕ) → isB r ≡ true → isDigit r ≡ false
+unfolding isB isDigit isNine isPunched isSuppressible
+b-no-digit r b = rw (eqb-true r 10 b)
 
 pub mark-shows : (kind : ℕ) (neg : Bool) → drifts kind ≡ true → digitIn (mark kind neg) ≡ 0
 unfolding digitIn place mark drifts first each

@@ -36,6 +36,10 @@ pub insertions-hold : All Lines.insertions
 unfolding definitions
 insertions-hold = all-hold Lines.insertions refl
 
+pub gaps-hold : All Lines.gaps
+unfolding definitions
+gaps-hold = all-hold Lines.gaps refl
+
 pub digits-hold : All Lines.digits
 unfolding definitions
 digits-hold = all-hold Lines.digits refl
@@ -113,7 +117,7 @@ unfolding definitions
 listings-hold = all-hold Lines.listings refl
 
 pub ours-hold : All Lines.ours
-ours-hold = all-join _ _ statics-hold (all-join _ _ drifting-hold (all-join _ _ insertions-hold (all-join _ _ digits-hold (all-join _ _ punches-hold (all-join _ _ punched-hold (all-join _ _ blanks-hold (all-join _ _ alignment-hold (all-join _ _ readings-hold (all-join _ _ texts-hold (all-join _ _ suppressions-hold (all-join _ _ placements-hold (all-join _ _ limits-hold (all-join _ _ values-hold (all-join _ _ layouts-hold (all-join _ _ memory-hold (all-join _ _ orders-hold (all-join _ _ plan-orders-hold (all-join _ _ plans-hold (all-join _ _ no-plans-hold (all-join _ _ runs-hold listings-hold))))))))))))))))))))
+ours-hold = all-join _ _ statics-hold (all-join _ _ drifting-hold (all-join _ _ insertions-hold (all-join _ _ gaps-hold (all-join _ _ digits-hold (all-join _ _ punches-hold (all-join _ _ punched-hold (all-join _ _ blanks-hold (all-join _ _ alignment-hold (all-join _ _ readings-hold (all-join _ _ texts-hold (all-join _ _ suppressions-hold (all-join _ _ placements-hold (all-join _ _ limits-hold (all-join _ _ values-hold (all-join _ _ layouts-hold (all-join _ _ memory-hold (all-join _ _ orders-hold (all-join _ _ plan-orders-hold (all-join _ _ plans-hold (all-join _ _ no-plans-hold (all-join _ _ runs-hold listings-hold)))))))))))))))))))))
 
 -- An input of over 65,536 bytes gives one line; of any other the lines are listed.
 

@@ -20,7 +20,7 @@ use Rattle.rules.specs.Candidate.{digitIn, shown, shownIn}
 use Rattle.rules.specs.Cells.{characterAt}
 use Rattle.rules.proofs.Search.{getD-upTo, length-upTo, upTo-same}
 use Rattle.rules.proofs.Digits.{digits-digits, digits-length, digits-zero, ten-pos, value-digits}
-use Rattle.rules.proofs.Characters.{fill-shows, none-shows}
+use Rattle.rules.proofs.Characters.{hidden-shows, none-shows}
 use Rattle.rules.proofs.Logic.{both, side}
 use Rattle.rules.proofs.Stretch.{cell-shows}
 
@@ -67,7 +67,7 @@ module _ (φ : Form) where
   shown-field neg t =
       shows _ _ _ (digits-length _ t)
       (λ k l e. ⊎-elim
-      (λ (b : isBlank φ t ≡ true). rw (field-blank neg t b, getD-upTo _ _ k l, fill-shows, blank-zero t b) (sym (digits-zero _ _)))
+      (λ (b : isBlank φ t ≡ true). rw (field-blank neg t b, getD-upTo _ _ k l, hidden-shows, blank-zero t b) (sym (digits-zero _ _)))
       (λ (b : isBlank φ t ≡ false). rw (field-cells neg t b, getD-upTo _ _ k l) (cell-shows φ _ (digits-digits _ t) neg k e))
       (side (isBlank φ t)))
 

@@ -9,10 +9,10 @@ use lib.IntN.{ℤ, pos}
 use lib.Dec.{leb}
 use lib.ListN.{length, getD, replicate, drop}
 use Rattle.rules.specs.Words.{any, count, has, place, same, text, times}
-use Rattle.rules.specs.Search.{each, first, upTo}
+use Rattle.rules.specs.Search.{each, first, last, upTo}
 use Rattle.rules.specs.Numbers.{badField, firstOf}
 use Rattle.rules.specs.Text.{copies, expandFrom, next, roomOf, textFits}
-use Rattle.rules.specs.Roles.{drifts, driftsSign, isDigit, isFirstDrifting, isNine, isPunched, isSign, isStatic, isSuppressible, opens}
+use Rattle.rules.specs.Roles.{drifts, driftsSign, isB, isDigit, isFirstDrifting, isNine, isPunched, isSign, isStatic, isSuppressible, opens}
 use Rattle.rules.specs.Form.{Form, formOf, kindUpTo, meaning, number, numbers, rolesFrom, suppresses}
 use Rattle.rules.specs.Shape.{digitsFit, drifting, driftsBeforeV, formShape, ninesLast, oneDrifts, oneSign, oneV, pictureOf, places, shape, staticsPlaced, suppressedPlaces, suppressionApart, verdict, whole}
 use Rattle.rules.specs.Digits.{digitsOf, valueOf}
@@ -126,7 +126,7 @@ says (lists input out) = tested (alone 0) (text out) true
 
 -- A line is computed by opening every definition on the way: a law that says `unfolding definitions` opens all of these.
 unfoldable pub definitions : ℕ
-unfolding has times place any count same first each upTo firstOf badField textFits next copies expandFrom isPunched isNine isSuppressible isDigit isFirstDrifting opens isStatic isSign drifts driftsSign number numbers suppresses kindUpTo rolesFrom formOf meaning oneV drifting oneDrifts suppressionApart ninesLast suppressedPlaces oneSign staticsPlaced driftsBeforeV formShape shape whole places digitsFit verdict digitsOf valueOf inRange aligned isMinus hasSign tooBig fill mark listOf digitChar printed suppressed cell opening allSuppressible digitAt isShown firstShown start inStretch driftsTo cellAt isBlank field edited checkAnswer editNumber editAnswer editMemory readAnswer digitIn shownIn worthOf minusFits readOf cut closes countFits accepted forms recordLength headers positions planOf numberOver answerOver compileNumber compileAnswer compileMemory readBefore recordAnswer rowAfter editVerdicts recordOf rowNumber rowAnswer readAll linesFrom trimmed decimal line answerLine layoutLine recordLine recordLines packed bitsOf intOf leBytes leValue bytesOf intIn rowBytes rowIn readRunNumber roomOf pictureOf plainNumber inOrder bears oneDollar marksLast fitsRoom wellMade good formsFrom formsIn allGood isPlan listingOf found says
+unfolding has times place any count same first last each upTo firstOf badField textFits next copies expandFrom isPunched isNine isSuppressible isDigit isFirstDrifting opens isStatic isB isSign drifts driftsSign number numbers suppresses kindUpTo rolesFrom formOf meaning oneV drifting oneDrifts suppressionApart ninesLast suppressedPlaces oneSign staticsPlaced driftsBeforeV formShape shape whole places digitsFit verdict digitsOf valueOf inRange aligned isMinus hasSign tooBig fill mark listOf digitChar printed suppressed cell opening allSuppressible digitAt isShown firstShown start inStretch driftsTo cellAt isBlank field edited checkAnswer editNumber editAnswer editMemory readAnswer digitIn shownIn worthOf minusFits readOf cut closes countFits accepted forms recordLength headers positions planOf numberOver answerOver compileNumber compileAnswer compileMemory readBefore recordAnswer rowAfter editVerdicts recordOf rowNumber rowAnswer readAll linesFrom trimmed decimal line answerLine layoutLine recordLine recordLines packed bitsOf intOf leBytes leValue bytesOf intIn rowBytes rowIn readRunNumber roomOf pictureOf plainNumber inOrder bears oneDollar marksLast fitsRoom wellMade good formsFrom formsIn allGood isPlan listingOf found says
 definitions = 0
 
 -- Where the two are equal the line holds.

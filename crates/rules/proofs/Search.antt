@@ -1,9 +1,9 @@
--- Laws of `first` and `upTo`. Assumes nothing.
+-- Laws of `first`, `last` and `upTo`. Assumes nothing.
 use mathlib.Core.Path.{_≡_, refl, sym, _∙_, ap}
 use mathlib.Core.Bool.{Bool, true, false, cond, not, true≢false}
 use mathlib.Core.List.{List, [], _∷_}
 use mathlib.Core.Logic.{⊎-elim}
-use Prim.Native.Nat.{ℕ, zero, suc, _+_, _<_, _≤_}
+use Prim.Native.Nat.{ℕ, zero, suc, _+_, _-_, _<_, _≤_}
 use native.Mathlib.Nat.{not-suc-le-zero, le-of-suc-le-suc, eq-or-lt-of-le}
 use native.Mathlib.Numerals.{add-one}
 use native.Mathlib.Omega.{arith}
@@ -11,7 +11,7 @@ use borrow.Author.Tests.{eqb-true, not-false}
 use lib.ListN.{length, getD, length-append, List·getD-append}
 use lib.Seq.{getD-at}
 use Rattle.rules.specs.Words.{any}
-use Rattle.rules.specs.Search.{each, first, upTo}
+use Rattle.rules.specs.Search.{each, first, last, upTo}
 use Rattle.rules.proofs.Logic.{by-test, lt-or-le}
 
 pub first-le : (p : ℕ → Bool) (n : ℕ) → first p n ≤ n
@@ -65,6 +65,30 @@ first-mono p q n h =
     (λ (l : first q n < n). first-least p n (first q n) (h (first q n) l (first-holds q n l)))
     (λ (l : n ≤ first q n). let m = first-le p n in omega arith)
     (lt-or-le (first q n) n)
+
+-- A place with p below n: the last one is no further left, is itself below n and has p.
+module _ (p : ℕ → Bool) where
+  pub last-found : (n k : ℕ) → k < n → p k ≡ true → (k ≤ last p n) × (last p n < n) × (p (last p n) ≡ true)
+  unfolding last
+  last-found zero k h e = absurd (not-suc-le-zero h)
+  last-found (suc n) k h e =
+      by-test (p n)
+      (λ q. rw q (omega arith, omega arith, q))
+      (λ q.
+      let l : k < n = ⊎-elim (λ (z : k ≡ n). absurd (true≢false (sym e ∙ ap p z ∙ q))) (λ (z : k < n). z) (eq-or-lt-of-le (le-of-suc-le-suc h)) in
+      let ih = last-found n k l e in
+      rw q (ih .0, omega arith, ih .2))
+
+  -- the loop that looks for it from the end
+  pub last-here : (n : ℕ) → 0 < n → p (n - 1) ≡ true → last p n ≡ n - 1
+  unfolding last
+  last-here zero h e = absurd (not-suc-le-zero h)
+  last-here (suc n) h e = let q : suc n - 1 ≡ n = omega arith in rw (q, rw q at e)
+
+  pub last-less : (n : ℕ) → 0 < n → p (n - 1) ≡ false → last p n ≡ last p (n - 1)
+  unfolding last
+  last-less zero h e = absurd (not-suc-le-zero h)
+  last-less (suc n) h e = let q : suc n - 1 ≡ n = omega arith in rw (q, rw q at e)
 
 pub each-at : (p : ℕ → Bool) (n k : ℕ) → each p n ≡ true → k < n → p k ≡ true
 unfolding each

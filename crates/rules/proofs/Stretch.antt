@@ -1,23 +1,28 @@
 -- Where printing starts and what stands in the stretch: before printing starts a digit is 0 and no nine, a cell shows the digit of its position,
--- and the stretch of a drifting symbol holds that symbol's character. Assumes nothing.
+-- and the stretch of a drifting symbol holds that symbol's character, since where it begins no B stands. Assumes nothing.
 use mathlib.Core.Path.{_≡_, refl, sym, _∙_}
 use mathlib.Core.Bool.{Bool, true, false, not, _&&_, _||_, true≢false}
 use mathlib.Core.List.{List}
 use mathlib.Core.Logic.{⊎-elim}
 use Prim.Native.Nat.{ℕ, _<_, _≤_, min}
 use native.Mathlib.Omega.{arith}
-use borrow.Author.Tests.{leb-true, leb-false, ltb-true, eqb-true, le-leb, lt-ltb, eq-eqb, not-false}
+use borrow.Author.Tests.{leb-true, leb-false, ltb-true, eqb-true, le-leb, lt-ltb, eq-eqb, not-false, not-true}
 use lib.Dec.{leb, eqb}
 use Rattle.rules.specs.Search.{first}
-use Rattle.rules.specs.Roles.{drifts, isDigit, isNine}
+use Rattle.rules.specs.Roles.{drifts, isB, isDigit, isFirstDrifting, isNine, isSuppressible, opens}
 use Rattle.rules.specs.Form.{Form, roleAt, size}
 use Rattle.rules.specs.Digits.{Digits}
 use Rattle.rules.specs.Edit.{cell, cellAt, digitAt, driftsTo, firstShown, inStretch, isShown, mark, opening, printed, start}
 use Rattle.rules.specs.Candidate.{digitIn}
-use Rattle.rules.proofs.Search.{first-holds, first-le, first-least, first-mono, first-none}
-use Rattle.rules.proofs.Characters.{digit-shows, fill-shows, mark-shows}
+use Rattle.rules.proofs.Search.{first-holds, first-le, first-least, first-mono, first-none, last-found}
+use Rattle.rules.proofs.Characters.{digit-shows, hidden-shows, mark-shows}
 use Rattle.rules.proofs.Logic.{both, lt-or-le, none-of, or-cases, side, splits, weaker}
 use Rattle.rules.proofs.Sound.{Sound}
+
+-- what opens the stretch is no B
+opens-no-b : (r : ℕ) → opens r ≡ true → isB r ≡ false
+unfolding opens isSuppressible isFirstDrifting isB
+opens-no-b r e = ⊎-elim (λ (q : eqb r 1 ≡ true). rw (eqb-true r 1 q)) (λ (q : eqb r 2 ≡ true). rw (eqb-true r 2 q)) (or-cases _ _ e)
 
 module _ (φ : Form) (ds : List ℕ) where
   pub start-is : start φ ds ≡ min (φ .vee) (firstShown φ ds)
@@ -56,9 +61,26 @@ module _ (φ : Form) (ds : List ℕ) where
       ⊎-elim
       (λ (i : inStretch φ ds k ≡ true).
       let z = early k (stretch-to k i) e .0 in
-      rw i (⊎-elim (λ (q : here ≡ true). rw q (mark-shows _ neg (both (drifts (φ .kind)) _ q .0) ∙ sym z)) (λ (q : here ≡ false). rw q (fill-shows _ _ ∙ sym z)) (side here)))
+      rw i (⊎-elim (λ (q : here ≡ true). rw q (mark-shows _ neg (both (drifts (φ .kind)) _ q .0) ∙ sym z)) (λ (q : here ≡ false). rw q (hidden-shows _ _ ∙ sym z)) (side here)))
       (λ (i : inStretch φ ds k ≡ false). rw (i, e) (digit-shows _ neg _ (ok _)))
       (side (inStretch φ ds k))
+
+  pub start-below : start φ ds ≤ size φ
+  unfolding firstShown
+  start-below = omega (arith, start-is, first-le (λ k. isShown φ ds k) (size φ))
+
+  -- The drifting character stands at no B, at position k or behind it, and before printing starts. So it does for each k before the start that is
+  -- no B (`drifts-last`), and where the stretch begins no B stands (`drifts-in`).
+  abbrev pub StandsFrom : ℕ → Type 0
+  StandsFrom k = (isB (roleAt φ (driftsTo φ ds)) ≡ false) × (k ≤ driftsTo φ ds) × (driftsTo φ ds < start φ ds)
+
+  pub drifts-last : (k : ℕ) → k < start φ ds → isB (roleAt φ k) ≡ false → StandsFrom k
+  unfolding driftsTo
+  drifts-last k l b = let w = last-found (λ j. not (isB (roleAt φ j))) (start φ ds) k l (rw b) in (not-true _ (w .2), w .0, w .1)
+
+  pub drifts-in : opening φ < start φ ds → StandsFrom (opening φ)
+  unfolding opening
+  drifts-in l = drifts-last (opening φ) l (opens-no-b _ (first-holds (λ k. opens (roleAt φ k)) (size φ) (omega (arith, start-below))))
 
 -- the first position that holds a nonzero digit or a nine
 unfoldable pub counts : (φ : Form) → List ℕ → ℕ → Bool
@@ -95,15 +117,13 @@ module _ (φ : Form) (ds : List ℕ) where
         (lt-or-le (opening φ) (firstShown φ ds)) in
         omega (arith, start-is φ ds, s .inside d .1)
 
-    -- its character stands in the stretch
-    pub drifts-within : (opening φ ≤ driftsTo φ ds) × (driftsTo φ ds < start φ ds)
-    unfolding driftsTo
-    drifts-within = let l = stretch-some in omega arith
+    -- so its character has a place, in the stretch and at no B
+    pub drifts-within : StandsFrom φ ds (opening φ)
+    drifts-within = drifts-in φ ds stretch-some
 
     pub drifts-below : driftsTo φ ds < size φ
-    unfolding firstShown
-    drifts-below = omega (arith, drifts-within, start-is φ ds, first-le (λ k. isShown φ ds k) (size φ))
+    drifts-below = omega (arith, drifts-within .2, start-below φ ds)
 
     pub drifts-cell : (neg : Bool) → cellAt φ ds neg (driftsTo φ ds) ≡ mark (φ .kind) neg
     unfolding cellAt cell
-    drifts-cell neg = rw (stretch-in φ ds _ (drifts-within .0) (drifts-within .1), d, eq-eqb (driftsTo φ ds) (driftsTo φ ds) refl)
+    drifts-cell neg = rw (stretch-in φ ds _ (drifts-within .1) (drifts-within .2), d, eq-eqb (driftsTo φ ds) (driftsTo φ ds) refl)

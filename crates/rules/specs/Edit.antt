@@ -1,15 +1,15 @@
 -- RULES 3, from value to field. Assumes nothing.
 use mathlib.Core.Bool.{Bool, true, false, cond, not, _&&_, _||_}
 use mathlib.Core.List.{List}
-use Prim.Native.Nat.{ℕ, _+_, _-_, _*_, _/_, _^_}
+use Prim.Native.Nat.{ℕ, _+_, _*_, _/_, _^_}
 use Prim.Native.Char.{code}
 use lib.IntN.{ℤ, pos, negsuc, natAbs}
 use lib.Dec.{leb, ltb, eqb}
 use lib.ListN.{getD, take}
 use Rattle.rules.specs.Words.{text, any, count}
-use Rattle.rules.specs.Search.{first, upTo}
+use Rattle.rules.specs.Search.{first, last, upTo}
 use Rattle.rules.specs.Digits.{digitsOf}
-use Rattle.rules.specs.Roles.{isNine, isDigit, opens, isSign, drifts, driftsSign}
+use Rattle.rules.specs.Roles.{isNine, isDigit, isB, opens, isSign, drifts, driftsSign}
 use Rattle.rules.specs.Form.{Form, size, roleAt}
 use Rattle.rules.specs.Shape.{mostDigits, digitCount, whole, places}
 
@@ -37,7 +37,7 @@ hasSign φ = any isSign (φ .roles) || driftsSign (φ .kind)
 unfoldable pub tooBig : Form → ℤ → ℕ → Bool
 tooBig φ m q = leb (10 ^ whole φ) (natAbs m / 10 ^ q) || ltb 0 (aligned φ m q) && isNegative m && not (hasSign φ)
 
--- RULES 3.6: what a hidden position shows
+-- RULES 3.6: the fill
 unfoldable pub fill : ℕ → ℕ
 fill kind = cond (eqb kind 2) (code "*") (code " ")
 
@@ -73,9 +73,9 @@ digitChar r negative d = getD figures (10 * listOf r negative + d) 0
 unfoldable pub printed : ℕ → Bool → ℕ → ℕ
 printed r negative d = cond (isDigit r) (digitChar r negative d) (mark r negative)
 
--- inside it each shows the fill, digits (RULES 3.10) and insertions (3.11) alike
+-- RULES 3.6: a hidden one shows the fill, but B is a blank always
 unfoldable pub suppressed : ℕ → ℕ → ℕ
-suppressed kind r = fill kind
+suppressed kind r = cond (isB r) (code " ") (fill kind)
 
 -- the character at one position: whether it lies inside the stretch, whether the drifting character stands there, the sign and the digit
 unfoldable pub cell : ℕ → ℕ → Bool → Bool → Bool → ℕ → ℕ
@@ -112,9 +112,10 @@ module _ (φ : Form) where
     unfoldable pub inStretch : ℕ → Bool
     inStretch k = leb opening k && ltb k start
 
-    -- RULES 3.13: the last position of the stretch has the drifting character
+    -- RULES 3.13: of the positions before the start, the one furthest right that is no B has the drifting character. It is one of the stretch, unless
+    -- that is empty (`drifts-in` in proofs/Stretch.antt).
     unfoldable pub driftsTo : ℕ
-    driftsTo = start - 1
+    driftsTo = last (λ k. not (isB (roleAt φ k))) start
 
     unfoldable pub cellAt : Bool → ℕ → ℕ
     cellAt negative k = cell (φ .kind) (roleAt φ k) (inStretch k) (drifts (φ .kind) && eqb k driftsTo) negative (digitAt k)

@@ -33,7 +33,7 @@ statics =
     edits "9$S" (pos 5) 0 "5$+" ∷
     edits "9$S" (minus 5) 0 "5$-" ∷ []
 
--- RULES 3.13: the same drifting, with both signs; the character stands last in the stretch, at an insertion's position too.
+-- RULES 3.13: the same drifting, with both signs; the character stands last in the stretch, at an insertion's position too unless that is B's.
 abbrev pub drifting : List Line
 drifting =
     edits "SSS9" (pos 5) 0 "  +5" ∷
@@ -49,7 +49,9 @@ drifting =
     edits "$$9CR" (minus 7) 0 " $7CR" ∷
     edits "S$$9" (minus 7) 0 "- $7" ∷
     edits "$$,9" (pos 5) 0 "  $5" ∷
-    edits "--B9" (minus 5) 0 "  -5" ∷
+    edits "--/9" (minus 5) 0 "  -5" ∷
+    edits "$$.9" (pos 5) 0 "  $5" ∷
+    edits "--B9" (minus 5) 0 " - 5" ∷
     edits "$V$" (pos 5) 1 "$5" ∷
     edits "$,V.$" (pos 5) 1 " $.5" ∷ []
 
@@ -63,11 +65,82 @@ insertions =
     edits "Z,Z.Z/ZB9" (pos 5) 0 "        5" ∷
     edits "*,*.*/*B9" (pos 12345) 0 "1,2.3/4 5" ∷
     edits "*,*.*/*B9" (pos 345) 0 "****3/4 5" ∷
-    edits "*,*.*/*B9" (pos 5) 0 "********5" ∷
+    edits "*,*.*/*B9" (pos 5) 0 "******* 5" ∷
     edits "-,-.-/-B9" (minus 1345) 0 " -1.3/4 5" ∷
     edits ",./BZZ,./B" (pos 5) 0 ",./  5,./ " ∷
     edits "V,.ZZ" (pos 1) 2 ",.01" ∷
     edits "ZV.9" (pos 0) 0 " .0" ∷ []
+
+-- RULES 3.6, 3.7, 3.11 and 3.13: the gaps that B leaves. It is a blank before the stretch, in it and behind it, before V and behind V, and where everything is
+-- suppressed; what drifts passes over it, over several too, and to no place further left. The B of a mark is no insertion.
+abbrev pub gaps : List Line
+gaps =
+    edits "**B**" (pos 12) 0 "** 12" ∷
+    edits "**B**" (pos 123) 0 "*1 23" ∷
+    edits "B**B" (pos 5) 0 " *5 " ∷
+    edits "(3)*(2)B9" (pos 5) 0 "***  5" ∷
+    edits "**,B*" (pos 5) 0 "*** 5" ∷
+    edits "**B,*" (pos 5) 0 "** *5" ∷
+    edits "*B*V.*B*" (pos 1) 2 "* *.0 1" ∷
+    edits "*BV.9" (pos 5) 1 "* .5" ∷
+    edits "*BBT" (minus 5) 0 "*  N" ∷
+    edits "ZBZ" (pos 5) 0 "  5" ∷
+    edits "**B**" (pos 0) 0 "** **" ∷
+    edits "B**B" (pos 0) 0 " ** " ∷
+    edits "*BB*" (pos 0) 0 "*  *" ∷
+    edits "*B*V.*B*" (pos 0) 0 "* *** *" ∷
+    edits "$BS*B*" (pos 0) 0 "* ** *" ∷
+    edits "**BDB" (pos 0) 0 "** **" ∷
+    edits "**BDB" (minus 5) 0 "*5 DB" ∷
+    edits "**BDB" (pos 5) 0 "*5   " ∷
+    edits "$$B$$" (pos 0) 0 "     " ∷
+    edits "$$B$$9" (pos 0) 0 "    $0" ∷
+    edits "$$B$$9" (pos 12) 0 "   $12" ∷
+    edits "$$B$$9" (pos 1234) 0 "$1 234" ∷
+    edits "$$BB9" (pos 5) 0 " $  5" ∷
+    edits "$B$9" (pos 15) 0 "$ 15" ∷
+    edits "$BB$" (pos 5) 0 "$  5" ∷
+    edits "$(5)B$" (pos 5) 0 "$     5" ∷
+    edits "$$BT" (minus 5) 0 " $ N" ∷
+    edits "$$B9CR" (minus 5) 0 " $ 5CR" ∷
+    edits "$B,$" (pos 5) 0 "  $5" ∷
+    edits "$,B$" (pos 5) 0 " $ 5" ∷
+    edits "$BV.$" (pos 5) 1 "$ .5" ∷
+    edits "$V.B$" (pos 5) 1 "$. 5" ∷
+    edits "B$$9B" (pos 5) 0 "  $5 " ∷
+    edits "SSB9" (pos 5) 0 " + 5" ∷
+    edits "SSB9" (minus 5) 0 " - 5" ∷
+    edits "++B9" (pos 5) 0 " + 5" ∷
+    edits "++B9" (minus 5) 0 "   5" ∷
+    edits "--B9" (pos 5) 0 "   5" ∷
+    reads "**B**" "** *5" (pos 5) ∷
+    reads "**B**" "** **" (pos 0) ∷
+    reads "**B**" "*1 23" (pos 123) ∷
+    reads "**BDB" "** **" (pos 0) ∷
+    reads "$$B$$9" " $ 123" (pos 123) ∷
+    reads "$$BB9" " $  5" (pos 5) ∷
+    reads "$BV.$" "$ .5" (pos 5) ∷
+    reads "--B9" " - 5" (minus 5) ∷
+    reads "++B9" "   5" (minus 5) ∷
+    rejects "**B**" "****5" 10 ∷
+    rejects "**B**" "*****" 10 ∷
+    rejects "**B**" "     " 10 ∷
+    rejects "**B**" "** *0" 10 ∷
+    rejects "**,**" "** *5" 10 ∷
+    rejects "**BDB" "**   " 10 ∷
+    rejects "$$B$$9" "  $123" 10 ∷
+    rejects "$$B$$9" "$  123" 10 ∷
+    rejects "$$B$$9" " $$123" 10 ∷
+    rejects "$$B$$9" "   123" 10 ∷
+    rejects "$$BB9" "  $ 5" 10 ∷
+    rejects "$$BB9" " $ $5" 10 ∷
+    rejects "$$BB9" "   $5" 10 ∷
+    rejects "$B$$9" " $ $5" 10 ∷
+    rejects "--B9" "  -5" 10 ∷
+    planEdits "**B**;$$B$$9;" (pos 5 ∷ pos 123 ∷ []) "###########" (success 11 (pos 0)) "** *5 $ 123" ∷
+    planReads "**B**;$$B$$9;" "** *5 $ 123" (pos 7 ∷ pos 7 ∷ []) (success 2 (pos 0)) (pos 5 ∷ pos 123 ∷ []) ∷
+    compiles "**B**;" (1 ∷ 5 ∷ 5 ∷ 2 ∷ 0 ∷ 5 ∷ 1 ∷ 1 ∷ 10 ∷ 1 ∷ 1 ∷ []) ∷
+    lists "**B**;\n** *5\n****5\n** **\n" "0,0,0,1,5\n1,0,0,5\n2,10,1\n3,0,0,0\n" ∷ []
 
 -- RULES 3.5 to 3.10: 9, Z, * and V: leading zeros, where printing starts, and a sign beside them.
 abbrev pub digits : List Line
@@ -176,12 +249,13 @@ punched =
 abbrev pub blanks : List Line
 blanks =
     edits "S$Z,Z.Z/ZBZ" (pos 0) 0 "           " ∷
-    edits "S$*,*.*/*B*" (pos 0) 0 "***********" ∷
+    edits "S$*,*.*/*B*" (pos 0) 0 "********* *" ∷
     edits "ZZCR" (minus 9) 1 "    " ∷
     edits "ZZDB" (pos 0) 0 "    " ∷
     edits "**CR" (minus 9) 1 "****" ∷
     edits "**DB" (pos 0) 0 "****" ∷
     edits "+ZZ" (pos 0) 0 "   " ∷
+    edits "+**" (pos 0) 0 "***" ∷
     edits "-**" (pos 0) 0 "***" ∷
     edits "SS,SS" (pos 0) 0 "     " ∷
     edits "++" (pos 0) 0 "  " ∷
@@ -671,4 +745,4 @@ listings =
 
 -- All of them as one list.
 abbrev pub ours : List Line
-ours = statics ++ drifting ++ insertions ++ digits ++ punches ++ punched ++ blanks ++ alignment ++ readings ++ texts ++ suppressions ++ placements ++ limits ++ values ++ layouts ++ memory ++ orders ++ planOrders ++ plans ++ noPlans ++ runs ++ listings
+ours = statics ++ drifting ++ insertions ++ gaps ++ digits ++ punches ++ punched ++ blanks ++ alignment ++ readings ++ texts ++ suppressions ++ placements ++ limits ++ values ++ layouts ++ memory ++ orders ++ planOrders ++ plans ++ noPlans ++ runs ++ listings

@@ -41,6 +41,10 @@ opens r = isSuppressible r || isFirstDrifting r
 unfoldable pub isStatic : ℕ → Bool
 isStatic r = leb 3 r && leb r 6
 
+-- RULES 3.6: the insertion B; the second letter of DB has a role of its own
+unfoldable pub isB : ℕ → Bool
+isB r = eqb r 10
+
 -- RULES 2.10: a sign: S, +, -, CR and DB by their first letters, and what is punched over a digit
 unfoldable pub isSign : ℕ → Bool
 isSign r = leb 3 r && leb r 5 || (eqb r 11 || (eqb r 13 || isPunched r))

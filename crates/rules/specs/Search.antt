@@ -1,4 +1,4 @@
--- Places: the first of a kind, and a list made place by place. Places count from 0. Assumes nothing.
+-- Places: the first of a kind and the last, and a list made place by place. Places count from 0. Assumes nothing.
 use mathlib.Core.Bool.{Bool, cond, not}
 use mathlib.Core.List.{List, [], _∷_, _++_}
 use Prim.Native.Nat.{ℕ, zero, suc}
@@ -8,6 +8,11 @@ use lib.Dec.{eqb}
 unfoldable pub first : (ℕ → Bool) → ℕ → ℕ
 first p zero = zero
 first p (suc n) = cond (p zero) zero (suc (first (λ k. p (suc k)) n))
+
+-- the last place below n with p; 0 if there is none
+unfoldable pub last : (ℕ → Bool) → ℕ → ℕ
+last p zero = zero
+last p (suc n) = cond (p n) n (last p n)
 
 -- p holds of every place below n
 unfoldable pub each : (ℕ → Bool) → ℕ → Bool

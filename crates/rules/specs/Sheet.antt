@@ -140,7 +140,8 @@ others =
     refuses "99" (pos 100) 0 8 ∷
     refuses "99" (minus 1) 0 8 ∷
     edits "99" (minus 9) 1 "00" ∷
-    edits "**B**" (pos 5) 0 "****5" ∷
+    edits "**B**" (pos 5) 0 "** *5" ∷
+    edits "$$B$$9" (pos 123) 0 " $ 123" ∷
     forbids "(64)9" 5 ∷
     forbids "(64)9V" 3 ∷
     accepts "(15)9" 15 ∷
