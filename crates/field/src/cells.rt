@@ -6,8 +6,8 @@ use roles::digits_at;
 use roles::figures::digit_char;
 use roles::is_bare;
 use roles::is_punched;
-use roles::marks::fill_of;
 use roles::marks::mark_of;
+use roles::marks::suppressed_of;
 use rules::Picture;
 ghost use mathlib.Core.Path.{_≡_};
 ghost use Prim.Native.Nat.{_≤_, _<_};
@@ -38,7 +38,7 @@ fn cell_of(kind: u8, role: u8, stretch: Stretch, k: usize, negative: bool, d: u8
         if k == stretch.spot {
             return mark_of(kind, negative);
         }
-        return fill_of(kind);
+        return suppressed_of(kind, role);
     }
     if is_bare(role) {
         return b'0' + d;

@@ -1,14 +1,16 @@
 // Which positions of a field are suppressed, and where a drifting symbol's character stands.
 use roles::does_drift;
 use roles::does_open;
+use roles::is_b;
 use roles::is_digit;
 use roles::is_nine;
 ghost use mathlib.Core.Path.{_≡_};
 ghost use mathlib.Core.Bool.{cond, not, _&&_};
-ghost use Prim.Native.Nat.{ℕ, _-_};
+ghost use Prim.Native.Nat.{ℕ, _≤_};
 ghost use lib.Dec.{eqb};
-ghost use lib.ListN.{getD};
-ghost use Rattle.rules.specs.Roles.{drifts};
+ghost use lib.ListN.{getD, length};
+ghost use Rattle.rules.specs.Search.{last};
+ghost use Rattle.rules.specs.Roles.{drifts, isB};
 ghost use Rattle.rules.specs.Form.{formed};
 ghost use Rattle.rules.specs.Edit.{opening, start};
 ghost use Rattle.field.specs.Steps.{stretchOf};
@@ -69,17 +71,23 @@ fn start_of(roles: &[u8], vee: usize, ds: &[u8]) -> usize
     vee
 }
 
-// RULES 3.13: the drifting character stands last before `to`; where nothing drifts it has no place, which is `past`.
-fn spot_of(kind: u8, to: usize, past: usize) -> usize
-    ensures { λ r. ⌜ r ≡ cond (drifts kind) (to - 1) past ⌝ }
+// RULES 3.13: the drifting character has the last position before `to` that is no B, looked for from there to the left. A stretch that isn't empty
+// has one; where there is none the answer is 0. Where nothing drifts the character has no place, which is one past the field.
+fn spot_of(roles: &[u8], kind: u8, to: usize) -> usize
+    requires { ⌜ to ≤ length (now roles) ⌝ }
+    ensures { λ r. ⌜ r ≡ cond (drifts kind) (last (λ k. not (isB (getD (now (roles .entry)) k 0))) to) (length (now (roles .entry))) ⌝ }
 {
-    if does_drift(kind) {
-        if to < 2 {
-            return 0;
-        }
-        return to - 1;
+    if !does_drift(kind) {
+        return roles.len();
     }
-    past
+    let mut spot = to;
+    while 0 < spot {
+        spot -= 1;
+        if !is_b(roles[spot]) {
+            return spot;
+        }
+    }
+    0
 }
 
 // RULES 3.7, everything is suppressed: no digit is a nine, and the magnitude is 0.
@@ -106,6 +114,6 @@ pub(crate) fn stretch_of(roles: &[u8], vee: usize, kind: u8, ds: &[u8], blank: b
     }
     let from = opening_of(roles);
     let to = start_of(roles, vee, ds);
-    let spot = spot_of(kind, to, past);
+    let spot = spot_of(roles, kind, to);
     Stretch { from, to, spot }
 }

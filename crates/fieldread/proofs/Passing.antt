@@ -6,6 +6,7 @@ use mathlib.Core.Path.{_≡_, refl, sym, _∙_}
 use mathlib.Core.Bool.{Bool, true, false, not, _&&_, _||_, true≢false, and-assoc, and-false, and-self, and-true, or-true}
 use mathlib.Core.List.{List, [], _∷_, _++_}
 use mathlib.Core.Option.{none}
+use Prim.Native.Char.{code}
 use Prim.Native.Nat.{ℕ, zero, suc, _+_, _-_, _*_, _^_, _<_, _≤_, min}
 use native.Mathlib.Nat.{not-suc-le-zero, le-of-suc-le-suc}
 use native.Mathlib.Numerals.{add-one}
@@ -18,21 +19,21 @@ use Rattle.rules.specs.Words.{any, count, same}
 use Rattle.rules.specs.Search.{upTo}
 use Rattle.rules.specs.Digits.{valueOf}
 use Rattle.rules.specs.Text.{isDecimal}
-use Rattle.rules.specs.Roles.{drifts, isBare, isDigit, isFirstDrifting, isNine, isPunched, isSuppressible, opens}
+use Rattle.rules.specs.Roles.{drifts, isB, isBare, isDigit, isFirstDrifting, isNine, isPunched, isSuppressible, opens}
 use Rattle.rules.specs.Form.{Form, roleAt, size}
 use Rattle.rules.specs.Shape.{digitCount, mostDigits}
-use Rattle.rules.specs.Edit.{allSuppressible, cell, cellAt, digitAt, driftsTo, field, fill, inStretch, isBlank, mark, opening, printed, suppressed}
+use Rattle.rules.specs.Edit.{allSuppressible, cell, cellAt, digitAt, driftsTo, field, inStretch, isBlank, mark, opening, printed, suppressed}
 use Rattle.rules.specs.Candidate.{digitIn, readOf, shown, shownIn, worthOf}
-use Rattle.rules.proofs.Characters.{digit-shows, digit-small, fill-shows, printed-bare, unpunched-char}
+use Rattle.rules.proofs.Characters.{b-no-digit, digit-shows, digit-small, hidden-blank, hidden-shows, printed-bare, unpunched-char}
 use Rattle.rules.proofs.Digits.{ten-le, ten-pos, value-digits, value-snoc}
 use Rattle.rules.proofs.Exact.{shown-small}
 use Rattle.rules.proofs.Fields.{field-blank, field-cells, shown-field, tail-at}
 use Rattle.rules.proofs.Lists.{same-eq}
 use Rattle.rules.proofs.Logic.{both, by-test, eqb-swap, neither}
 use Rattle.rules.proofs.Search.{first-least, length-upTo}
-use Rattle.rules.proofs.Stretch.{early, stretch-from, stretch-in, stretch-to}
+use Rattle.rules.proofs.Stretch.{drifts-in, drifts-last, early, stretch-from, stretch-in, stretch-to}
 use Rattle.fieldread.specs.declared.zones.Said.{Said}
-use Rattle.fieldread.specs.Zones.{Ahead, Filled, Hides, Led, Stopped, digitStep, fineAt, hasDrift, isFine, markStep, markedAt, printStep, saidAt, saidIn, sidesOf, soFar, startIn, valueTo, within}
+use Rattle.fieldread.specs.Zones.{HiddenTo, ShowsHidden, Hides, Led, Stopped, BsBetween, NoB, digitStep, fineAt, hasDrift, isFine, markStep, markedAt, printStep, saidAt, saidIn, sidesOf, soFar, startIn, valueTo, within}
 use Rattle.fieldread.proofs.Cases.{reads-other, reads-zero}
 use Rattle.field.proofs.Loops.{count-part, counted, counted-digit, counted-le, counted-nine, counted-other, counted-zero, opening-here, opening-more, shown-more, shown-same, start-counted}
 use Rattle.field.proofs.Whole.{worth-digits}
@@ -116,10 +117,6 @@ bare-digit r e = both (isDigit r) _ e .0
 mark-bare : (r : ℕ) → isDigit r ≡ false → isBare r ≡ false
 unfolding isBare
 mark-bare r d = rw d
-
-fill-worth : (kind : ℕ) → digitIn (fill kind) ≡ 0
-unfolding suppressed
-fill-worth kind = fill-shows kind 0
 
 -- the digit shown at a digit's position is that of the character there
 shown-at : (rs f : List ℕ) (k : ℕ) → k < length rs → isDigit (getD rs k 0) ≡ true → getD (shownIn rs f) (count isDigit (take k rs)) 0 ≡ digitIn (getD f k 0)
@@ -217,89 +214,126 @@ module _ (φ : Form) (f : List ℕ) where
       start-other d = let m = counted-other φ (shown φ f) k none-yet h d in omega (arith, start-counted φ (shown φ f))
 
   -- before it all digits are 0
-  pub ahead-first : Ahead φ f 0
-  unfolding shownIn valueOf
-  ahead-first = record { short = omega arith; empty = refl }
-
-  pub ahead-on : (k : ℕ) → Ahead φ f k → k < startIn φ f → Ahead φ f (k + 1)
-  ahead-on k a l =
+  empty-on : (k : ℕ) → k < startIn φ f → valueTo φ f k ≡ 0 → valueTo φ f (k + 1) ≡ 0
+  empty-on k l e =
       let h : k < size φ = omega (arith, start-least) in
-      let e : valueTo φ f (k + 1) ≡ 0 =
       by-test (isDigit (roleAt φ k))
       (λ d. by-test (eqb (digitIn (getD f k 0)) 0)
-      (λ z. rw (value-digit k h d, a .empty, eqb-true (digitIn (getD f k 0)) 0 z))
-      (λ z. let m = start-digit k (a .short) h d (eqb-false (digitIn (getD f k 0)) 0 z) in absurd (omega arith)))
-      (λ d. rw (value-mark k h d) (a .empty)) in
-      record { short = omega arith; empty = e }
+      (λ z. rw (value-digit k h d, e, eqb-true (digitIn (getD f k 0)) 0 z))
+      (λ z. let m = start-digit k (omega arith) h d (eqb-false (digitIn (getD f k 0)) 0 z) in absurd (omega arith)))
+      (λ d. rw (value-mark k h d) e)
+
+  empty-to : (k : ℕ) → k ≤ startIn φ f → valueTo φ f k ≡ 0
+  unfolding shownIn valueOf
+  empty-to zero l = refl
+  empty-to (suc k) l = rw (← add-one k) (empty-on k (omega arith) (empty-to k (omega arith)))
+
+  -- so that the stretch says nothing
+  kept-to : (from n : ℕ) → opening φ ≤ from → from + n ≤ startIn φ f → saidAt φ f from ≡ saidAt φ f (from + n)
+  kept-to from zero o l = let q : from + 0 ≡ from = omega arith in rw q
+  kept-to from (suc n) o l =
+      let k = from + n in
+      let q : k + 1 ≡ from + suc n = omega arith in
+      let s = said-in k (stretch-in φ (shown φ f) k (omega arith) (omega arith)) (empty-to k (omega arith)) (empty-to (k + 1) (omega arith)) in
+      kept-to from n o (omega arith) ∙ rw q at s
+
+  pub said-kept : (from : ℕ) → Led φ f from → saidAt φ f from ≡ saidAt φ f (startIn φ f)
+  said-kept from b =
+      by-test (ltb from (startIn φ f))
+      (λ l.
+      let m = ltb-true from (startIn φ f) l in
+      let q : from + (startIn φ f - from) ≡ startIn φ f = omega arith in
+      rw q at (kept-to from (startIn φ f - from) (b .opened m) (omega arith)))
+      (λ l. let q : from ≡ startIn φ f = omega (arith, b .short, ltb-false from (startIn φ f) l) in rw q)
 
   -- The first zone: neither the opening nor the start has been passed.
-  module _ (k : ℕ) (a : Ahead φ f k) (l : k ≤ opening φ) where
+  module _ (k : ℕ) (a : k ≤ startIn φ f) (l : k ≤ opening φ) where
     pub lead-stop : startIn φ f ≤ k → Led φ f k
-    lead-stop s = record { ahead = a; early = l; opened = λ m. let z : ⊥ = omega arith in absurd z }
+    lead-stop s = record { short = a; early = l; opened = λ m. let z : ⊥ = omega arith in absurd z }
 
     pub lead-here : (isNine (roleAt φ k) || opens (roleAt φ k)) ≡ true → Led φ f k
     lead-here e =
         by-test (isNine (roleAt φ k))
-        (λ n. lead-stop (start-nine k (a .short) n))
-        (λ n. let q = opening-here φ k l (rw n at e) in record { ahead = a; early = l; opened = λ m. omega arith })
+        (λ n. lead-stop (start-nine k a n))
+        (λ n. let q = opening-here φ k l (rw n at e) in record { short = a; early = l; opened = λ m. omega arith })
 
     module _ (v : k < φ .vee) (h : k < size φ) (e : (isNine (roleAt φ k) || opens (roleAt φ k)) ≡ false) where
       pub lead-early : k + 1 ≤ opening φ
       lead-early = opening-more φ k l h (neither (isNine (roleAt φ k)) (opens (roleAt φ k)) e .1)
 
-      pub lead-on : Ahead φ f (k + 1)
-      lead-on = ahead-on k a (start-other k (a .short) v h (no-digit _ e))
+      pub lead-on : k + 1 ≤ startIn φ f
+      lead-on = let m = start-other k a v h (no-digit _ e) in omega arith
 
       pub lead-out : within φ f k ≡ false
       lead-out = let m = lead-early in out-early k (omega arith)
 
-  -- The stretch: where the fill stands a digit is worth 0, so that printing has not started.
-  module _ (from : ℕ) where
-    pub filled-first : Led φ f from → Filled φ f from from
-    filled-first g = record { ahead = g .ahead; opened = g .opened; fills = λ j o l. let z : ⊥ = omega (arith, g .early) in absurd z; kept = refl }
+  -- The stretch: where a digit shows what hidden positions do it is worth 0, so that printing has not started.
+  pub hidden-first : (k : ℕ) → Led φ f k → HiddenTo φ f k
+  hidden-first k g = record { short = g .short; opened = g .opened; hides = λ j o l. let z : ⊥ = omega (arith, g .early) in absurd z }
 
-    module _ (k : ℕ) (g : Filled φ f from k) where
-      inside : k < startIn φ f → within φ f k ≡ true
-      inside l = stretch-in φ (shown φ f) k (g .opened l) l
+  module _ (k : ℕ) (g : HiddenTo φ f k) where
+    inside : k < startIn φ f → within φ f k ≡ true
+    inside l = stretch-in φ (shown φ f) k (g .opened l) l
 
-      -- a position of the stretch has been passed
-      kept-on : k < startIn φ f → saidAt φ f from ≡ saidAt φ f (k + 1)
-      kept-on l = g .kept ∙ said-in k (inside l) (g .ahead .empty) (ahead-on k (g .ahead) l .empty)
+    pub hidden-on : k < φ .vee → k < size φ → isNine (roleAt φ k) ≡ false → ShowsHidden φ f k → HiddenTo φ f (k + 1)
+    hidden-on v h n e =
+        let l : k < startIn φ f =
+        by-test (isDigit (roleAt φ k))
+        (λ d. start-zero k (g .short) v h n d (rw e (hidden-shows (φ .kind) (roleAt φ k))))
+        (λ d. start-other k (g .short) v h d) in
+        let o = g .opened l in
+        record {
+          short = omega arith;
+          opened = λ m. omega arith;
+          hides = λ j p m. by-test (eqb j k) (λ q. rw (eqb-true j k q) e) (λ q. let w : j ≡ k → ⊥ = eqb-false j k q in g .hides j p (omega arith));
+        }
 
-      pub filled-on : k < φ .vee → k < size φ → isNine (roleAt φ k) ≡ false → getD f k 0 ≡ fill (φ .kind) → Filled φ f from (k + 1)
-      filled-on v h n e =
-          let l : k < startIn φ f =
-          by-test (isDigit (roleAt φ k))
-          (λ d. start-zero k (g .ahead .short) v h n d (rw e (fill-worth (φ .kind))))
-          (λ d. start-other k (g .ahead .short) v h d) in
-          let o = g .opened l in
-          record {
-            ahead = ahead-on k (g .ahead) l;
-            opened = λ m. omega arith;
-            fills = λ j p m. by-test (eqb j k) (λ q. rw (eqb-true j k q) e) (λ q. let w : j ≡ k → ⊥ = eqb-false j k q in g .fills j p (omega arith));
-            kept = kept-on l;
-          }
+    -- printing starts behind it; where a symbol drifts its character is then a blank
+    pub stopped-all : (from : ℕ) → Led φ f from → startIn φ f ≤ k → Stopped φ f from k (code " ")
+    stopped-all from b s =
+        record {
+          starts = omega (arith, g .short);
+          hides = λ j i d. g .hides j (stretch-from φ (shown φ f) j i) (omega (arith, stretch-to φ (shown φ f) j i));
+          ended = λ d l.
+              let w = drifts-in φ (shown φ f) (omega (arith, b .early, b .opened (omega (arith, g .short)), g .short)) in
+              g .hides (driftsTo φ (shown φ f)) (w .1) (omega (arith, w .2)) ∙ hidden-blank (φ .kind) _ d;
+        }
 
-      -- printing starts behind the fill
-      pub stopped-fill : Led φ f from → startIn φ f ≤ k → Stopped φ f from k (fill (φ .kind))
-      stopped-fill b s =
-          record {
-            starts = omega (arith, g .ahead .short);
-            fills = λ j i d. g .fills j (stretch-from φ (shown φ f) j i) (omega (arith, stretch-to φ (shown φ f) j i));
-            ended = λ l. g .fills (k - 1) (omega (arith, b .opened (omega (arith, g .ahead .short)))) (omega arith);
-            kept = g .kept;
-          }
+  -- Bs with their blanks behind a position of the stretch
+  pub bs-first : (at : ℕ) → at < startIn φ f → BsBetween φ f at (at + 1)
+  bs-first at l = record { short = omega arith; behind = omega arith; blanks = λ j h m. let z : ⊥ = omega arith in absurd z }
 
-      -- or behind one character more, where a symbol drifts
-      pub stopped-drift : drifts (φ .kind) ≡ true → k < startIn φ f → startIn φ f ≤ k + 1 → Stopped φ f from (k + 1) (getD f k 0)
-      unfolding driftsTo
-      stopped-drift d l s =
-          record {
-            starts = omega arith;
-            fills = λ j i e. let w : j ≡ startIn φ f - 1 → ⊥ = eqb-false j _ (rw d at e) in g .fills j (stretch-from φ (shown φ f) j i) (omega (arith, stretch-to φ (shown φ f) j i));
-            ended = λ m. let z : k + 1 - 1 ≡ k = omega arith in rw z;
-            kept = kept-on l;
-          }
+  pub bs-on : (at k : ℕ) → BsBetween φ f at k → k < φ .vee → k < size φ → isB (roleAt φ k) ≡ true → ShowsHidden φ f k → BsBetween φ f at (k + 1)
+  bs-on at k t v h b e =
+      let l = start-other k (t .short) v h (b-no-digit _ b) in
+      record {
+        short = omega arith;
+        behind = omega (arith, t .behind);
+        blanks = λ j p m. by-test (eqb j k) (λ q. rw (eqb-true j k q) (b, e)) (λ q. let w : j ≡ k → ⊥ = eqb-false j k q in t .blanks j p (omega arith));
+      }
+
+  -- printing starts behind them: the position before is the last of the stretch that is no B, and has the drifting character
+  module _ (at to : ℕ) (l : at < startIn φ f) (b : isB (roleAt φ at) ≡ false) (t : BsBetween φ f at to) where
+    drifts-here : startIn φ f ≤ to → driftsTo φ (shown φ f) ≡ at
+    drifts-here s =
+        let w = drifts-last φ (shown φ f) at l b in
+        let d = driftsTo φ (shown φ f) in
+        by-test (ltb at d)
+        (λ m. absurd (true≢false (sym (t .blanks d (ltb-true at d m) (omega (arith, w .2)) .0) ∙ w .0)))
+        (λ m. omega (arith, w .1, ltb-false at d m))
+
+    pub stopped-drift : (from : ℕ) → HiddenTo φ f at → drifts (φ .kind) ≡ true → startIn φ f ≤ to → Stopped φ f from to (getD f at 0)
+    stopped-drift from g d s =
+        record {
+          starts = omega (arith, t .short);
+          hides = λ j i e.
+              let w : j ≡ at → ⊥ = λ q. eqb-false j _ (rw d at e) (q ∙ sym (drifts-here s)) in
+              let m = stretch-to φ (shown φ f) j i in
+              by-test (ltb j at)
+              (λ q. g .hides j (stretch-from φ (shown φ f) j i) (ltb-true j at q))
+              (λ q. t .blanks j (omega (arith, ltb-false j at q)) (omega arith) .1);
+          ended = λ y m. rw (drifts-here s);
+        }
 
   -- The last zone: a digit before it is no nine and so of the stretch, and from there on each bare one has to be one.
   fine-early : (k : ℕ) → k < startIn φ f → fineAt φ f k ≡ true
@@ -332,9 +366,9 @@ module _ (φ : Form) (f : List ℕ) where
 
   -- The end. What stands at a position, and what has been asked of it, are the same.
   module _ (negative : Bool) (k : ℕ) where
-    cell-fill : within φ f k ≡ true → hasDrift φ f k ≡ false → cellAt φ (shown φ f) negative k ≡ fill (φ .kind)
-    unfolding cellAt cell suppressed
-    cell-fill i d = rw (i, d)
+    cell-hidden : within φ f k ≡ true → hasDrift φ f k ≡ false → cellAt φ (shown φ f) negative k ≡ suppressed (φ .kind) (roleAt φ k)
+    unfolding cellAt cell
+    cell-hidden i d = rw (i, d)
 
     cell-drift : within φ f k ≡ true → hasDrift φ f k ≡ true → cellAt φ (shown φ f) negative k ≡ mark (φ .kind) negative
     unfolding cellAt cell
@@ -363,29 +397,29 @@ module _ (φ : Form) (f : List ℕ) where
     unfolding drifted
     drifted-here i d = rw (i, d)
 
-    cell-is : (within φ f k ≡ true → hasDrift φ f k ≡ false → getD f k 0 ≡ fill (φ .kind)) → k < size φ
+    cell-is : (within φ f k ≡ true → hasDrift φ f k ≡ false → ShowsHidden φ f k) → k < size φ
         → eqb (cellAt φ (shown φ f) negative k) (getD f k 0) ≡ (fineAt φ f k && markedAt φ f negative k && drifted)
     unfolding fineAt markedAt drifted
     cell-is g h =
         by-test (within φ f k)
         (λ i. by-test (hasDrift φ f k)
         (λ d. rw (cell-drift i d, i, d) (eqb-swap (mark (φ .kind) negative) (getD f k 0)))
-        (λ d. rw (cell-fill i d, i, d) (eq-eqb _ _ (sym (g i d)))))
+        (λ d. rw (cell-hidden i d, i, d) (eq-eqb _ _ (sym (g i d)))))
         (λ i. by-test (isBare (roleAt φ k))
         (λ b. rw (cell-bare i h b, i, b, and-true (isDecimal (getD f k 0)), and-true (isDecimal (getD f k 0))))
         (λ b. rw (cell-printed i h, i, b) (eqb-swap _ (getD f k 0) ∙ sym (and-true _))))
 
   -- All places together.
   module _ (long : length f ≡ size φ) where
-    -- a character of the stretch that is neither the fill nor the drifting one: no value has the field
-    module _ (k : ℕ) (h : k < size φ) (i : within φ f k ≡ true) (d : hasDrift φ f k ≡ false) (n : getD f k 0 ≡ fill (φ .kind) → ⊥) where
+    -- a character of the stretch that is neither what hidden positions show nor the drifting one: no value has the field
+    module _ (k : ℕ) (i : within φ f k ≡ true) (d : hasDrift φ f k ≡ false) (n : ShowsHidden φ f k → ⊥) where
       no-field : (negative : Bool) → same (field φ negative (worthOf φ f)) f ≡ false
-      unfolding suppressed
       no-field negative =
-          let e : eqb (fill (φ .kind)) (getD f k 0) ≡ false = ne-eqb _ _ (λ q. n (sym q)) in
+          let e : eqb (suppressed (φ .kind) (roleAt φ k)) (getD f k 0) ≡ false = ne-eqb _ _ (λ q. n (sym q)) in
+          let h : k < size φ = omega (arith, stretch-to φ (shown φ f) k i, start-least) in
           by-test (isBlank φ (worthOf φ f))
           (λ b. rw (field-blank φ negative (worthOf φ f) b, same-places _ f (size φ) long) (so-false _ (size φ) k h e))
-          (λ b. rw (field-cells φ negative (worthOf φ f) b, worth-digits φ f, same-places _ f (size φ) long) (so-false _ (size φ) k h (rw (cell-fill negative k i d) e)))
+          (λ b. rw (field-cells φ negative (worthOf φ f) b, worth-digits φ f, same-places _ f (size φ) long) (so-false _ (size φ) k h (rw (cell-hidden negative k i d) e)))
 
       unread : readOf φ f ≡ none
       unread = reads-other φ f (no-field false) (no-field true)
@@ -396,21 +430,19 @@ module _ (φ : Form) (f : List ℕ) where
       stands = drifts (φ .kind) && ltb from to
 
       all-drifted : (negative : Bool) → soFar (λ k. drifted negative k) (size φ) ≡ (not stands || eqb last (mark (φ .kind) negative))
-      unfolding driftsTo
       all-drifted negative =
           by-test (drifts (φ .kind))
           (λ d. by-test (ltb from to)
           (λ e.
           let l = ltb-true from to e in
           let q : startIn φ f ≡ to = g .starts in
-          let o = b .opened (omega arith) in
-          let j = to - 1 in
-          let i = stretch-in φ (shown φ f) j (omega arith) (omega arith) in
-          let off : (k : ℕ) → (k ≡ j → ⊥) → hasDrift φ f k ≡ false = λ k w. rw (d, ne-eqb k (startIn φ f - 1) (λ y. w (omega arith))) in
-          let on : hasDrift φ f j ≡ true = rw (d, eq-eqb j (startIn φ f - 1) (omega arith)) in
-          let z : getD f j 0 ≡ last = g .ended l in
-          let y : drifted negative j ≡ eqb last (mark (φ .kind) negative) = rw (drifted-here negative j i on, z) in
-          rw (d, e) (so-one (λ k. drifted negative k) (size φ) j (omega (arith, start-least)) (λ k h w. drifted-off negative k (off k w)) ∙ y))
+          let j = driftsTo φ (shown φ f) in
+          let w = drifts-in φ (shown φ f) (omega (arith, b .early, b .opened (omega arith))) in
+          let i = stretch-in φ (shown φ f) j (w .1) (w .2) in
+          let off : (k : ℕ) → (k ≡ j → ⊥) → hasDrift φ f k ≡ false = λ k n. rw (d, ne-eqb k j n) in
+          let on : hasDrift φ f j ≡ true = rw (d, eq-eqb j j refl) in
+          let y : drifted negative j ≡ eqb last (mark (φ .kind) negative) = rw (drifted-here negative j i on, g .ended d l) in
+          rw (d, e) (so-one (λ k. drifted negative k) (size φ) j (omega (arith, w .2, start-least)) (λ k h n. drifted-off negative k (off k n)) ∙ y))
           (λ e.
           let l = ltb-false from to e in
           rw (d, e) (so-true _ (size φ) (λ k h. drifted-out negative k (by-test (ltb k (opening φ))
@@ -423,7 +455,7 @@ module _ (φ : Form) (f : List ℕ) where
           ≡ same (upTo (size φ) (λ k. cellAt φ (shown φ f) negative k)) f
       all-cells negative =
           let n = size φ in
-          rw (← all-drifted negative, same-places _ f n long, so-same _ _ n (λ k h. cell-is negative k (λ i d. g .fills k i d) h))
+          rw (← all-drifted negative, same-places _ f n long, so-same _ _ n (λ k h. cell-is negative k (λ i d. g .hides k i d) h))
           (sym (so-both (λ k. fineAt φ f k && markedAt φ f negative k) (λ k. drifted negative k) n ∙ rw (so-both (fineAt φ f) (markedAt φ f negative) n)))
 
       module _ (s : Said) (q : s ≡ saidIn φ f) where
@@ -436,23 +468,40 @@ module _ (φ : Form) (f : List ℕ) where
         sides-plain e = rw (q, ← all-cells false, ← all-cells true, e, and-true (isFine φ f && soFar (markedAt φ f false) (size φ)), and-true (isFine φ f && soFar (markedAt φ f true) (size φ)))
 
     -- what `hide` has found
-    module _ (from k : ℕ) (b : Led φ f from) (g : Filled φ f from k) where
-      pub hides-fill : (l : ℕ) → l ≡ fill (φ .kind) → startIn φ f ≤ k → Hides φ f from (record { ok = true; to = k; last = l })
-      hides-fill l e s = record { stopped = λ t. rw e (stopped-fill from k g b s); refused = λ t. absurd (true≢false t) }
+    module _ (from k : ℕ) (b : Led φ f from) (g : HiddenTo φ f k) where
+      pub hides-all : startIn φ f ≤ k → Hides φ f from (record { ok = true; to = k; last = code " " })
+      hides-all s = record { stopped = λ t. stopped-all k g from b s; refused = λ t. absurd (true≢false t) }
 
-      module _ (l : k < startIn φ f) (n : getD f k 0 ≡ fill (φ .kind) → ⊥) where
-        pub hides-drift : (x : Bool) → drifts (φ .kind) ≡ true → x ≡ leb (startIn φ f) (k + 1) → Hides φ f from (record { ok = x; to = k + 1; last = getD f k 0 })
-        unfolding driftsTo
-        hides-drift x d e =
-            record {
-              stopped = λ t. stopped-drift from k g d l (leb-true _ _ (sym e ∙ t));
-              refused = λ t. let m = leb-false (startIn φ f) (k + 1) (sym e ∙ t) in unread k (omega (arith, start-least)) (inside from k g l) (rw (d, ne-eqb k (startIn φ f - 1) (λ q. omega arith))) n;
-            }
+      module _ (l : k < startIn φ f) (n : ShowsHidden φ f k → ⊥) where
+        -- no B has the drifting character
+        b-off : (j : ℕ) → isB (roleAt φ j) ≡ true → hasDrift φ f j ≡ false
+        b-off j e =
+            let w = drifts-in φ (shown φ f) (omega (arith, g .opened l)) in
+            rw (ne-eqb j (driftsTo φ (shown φ f)) (λ q. true≢false (sym e ∙ rw q (w .0)))) (and-false (drifts (φ .kind)))
 
-        pub hides-none : (to last : ℕ) → drifts (φ .kind) ≡ false → Hides φ f from (record { ok = false; to = to; last = last })
-        hides-none to last d = record { stopped = λ t. absurd (true≢false (sym t)); refused = λ t. unread k (omega (arith, start-least)) (inside from k g l) (rw d) n }
+        pub hides-none : (to last : ℕ) → (drifts (φ .kind) && not (isB (roleAt φ k))) ≡ false → Hides φ f from (record { ok = false; to = to; last = last })
+        hides-none to last e =
+            let d : hasDrift φ f k ≡ false = by-test (isB (roleAt φ k)) (λ q. b-off k q) (λ q. let z : drifts (φ .kind) ≡ false = rw (q, and-true (drifts (φ .kind))) at e in rw z) in
+            record { stopped = λ t. absurd (true≢false (sym t)); refused = λ t. unread k (inside k g l) d n }
 
-  -- Where not everything is suppressed the cells are the field; else the field is all fill.
+        module _ (to : ℕ) (d : drifts (φ .kind) ≡ true) (e : isB (roleAt φ k) ≡ false) (t : BsBetween φ f k to) (u : NoB φ f to) where
+          -- printing doesn't start behind the Bs: the B there shows no blank, or the drifting character stands further right
+          unread-drift : to < startIn φ f → readOf φ f ≡ none
+          unread-drift m =
+              by-test (isB (roleAt φ to))
+              (λ q. unread to (stretch-in φ (shown φ f) to (omega (arith, g .opened l, t .behind)) m) (b-off to q) (u m q))
+              (λ q.
+              let w = drifts-last φ (shown φ f) to m q in
+              unread k (inside k g l) (rw (d, ne-eqb k (driftsTo φ (shown φ f)) (λ z. omega (arith, w .1, t .behind)))) n)
+
+          pub hides-drift : (x : Bool) → x ≡ leb (startIn φ f) to → Hides φ f from (record { ok = x; to = to; last = getD f k 0 })
+          hides-drift x q =
+              record {
+                stopped = λ y. stopped-drift k to l e t from g d (leb-true _ _ (sym q ∙ y));
+                refused = λ y. unread-drift (leb-false (startIn φ f) to (sym q ∙ y));
+              }
+
+  -- Where not everything is suppressed the cells are the field; else all positions are hidden.
   sides-field : (negative : Bool) → isBlank φ (worthOf φ f) ≡ false → same (upTo (size φ) (λ k. cellAt φ (shown φ f) negative k)) f ≡ same (field φ negative (worthOf φ f)) f
   sides-field negative b = rw (field-cells φ negative (worthOf φ f) b, worth-digits φ f)
 
@@ -517,11 +566,10 @@ module _ (φ : Form) (f : List ℕ) where
       pub unread-zero : same (field φ false (worthOf φ f)) f ≡ false → readOf φ f ≡ none
       unread-zero p = by-worth l (λ e. reads-zero φ f p (sym e ∙ z)) (λ n m. reads-other φ f p (m true))
 
-      pub plus-blank : any isNine (φ .roles) ≡ false → same (upTo (length f) (λ k. fill (φ .kind))) f ≡ same (field φ false (worthOf φ f)) f
-      unfolding isBlank allSuppressible suppressed
+      pub plus-blank : any isNine (φ .roles) ≡ false → same (upTo (size φ) (λ k. suppressed (φ .kind) (roleAt φ k))) f ≡ same (field φ false (worthOf φ f)) f
+      unfolding isBlank allSuppressible
       plus-blank n =
-          let b : field φ false 0 ≡ upTo (length f) (λ k. fill (φ .kind)) = rw l (field-blank φ false 0 (rw n)) in
-          rw (← b)
+          rw (← field-blank φ false 0 (rw n))
           (by-worth l
           (λ e. let w : worthOf φ f ≡ 0 = sym e ∙ z in rw w)
           (λ s m. by-test (same (field φ false 0) f) (λ e. absurd (s (worth-zero e))) (λ e. e ∙ sym (m false))))

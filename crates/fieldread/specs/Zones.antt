@@ -4,17 +4,17 @@ use mathlib.Core.Path.{_≡_}
 use mathlib.Core.Bool.{Bool, true, false, cond, not, _&&_, _||_}
 use mathlib.Core.List.{List}
 use mathlib.Core.Option.{none}
-use Prim.Native.Nat.{ℕ, zero, suc, _+_, _-_, _*_, _<_, _≤_}
+use Prim.Native.Nat.{ℕ, zero, suc, _+_, _*_, _<_, _≤_}
 use lib.Dec.{eqb}
 use lib.ListN.{length, getD, take}
 use Rattle.rules.specs.Words.{same}
 use Rattle.rules.specs.Search.{upTo}
 use Rattle.rules.specs.Digits.{valueOf}
 use Rattle.rules.specs.Text.{isDecimal}
-use Rattle.rules.specs.Roles.{drifts, isBare, isDigit}
+use Rattle.rules.specs.Roles.{drifts, isB, isBare, isDigit}
 use Rattle.rules.specs.Form.{Form, roleAt, size}
 use Rattle.rules.specs.Shape.{digitCount, mostDigits}
-use Rattle.rules.specs.Edit.{cellAt, driftsTo, fill, inStretch, mark, opening, printed, start}
+use Rattle.rules.specs.Edit.{cellAt, driftsTo, inStretch, mark, opening, printed, start, suppressed}
 use Rattle.rules.specs.Candidate.{digitIn, readOf, shown, shownIn, worthOf}
 use Rattle.fieldread.specs.declared.zones.Said.{Said}
 use Rattle.fieldread.specs.declared.zones.Hidden.{Hidden}
@@ -77,34 +77,41 @@ module _ (φ : Form) (f : List ℕ) where
     pub long : length f ≡ size φ
     pub few : digitCount φ ≤ mostDigits
 
-  -- printing doesn't start before position k, and so there is no value yet
-  pub record Ahead (k : ℕ) : Type 0 where
-    pub short : k ≤ startIn
-    pub empty : valueTo k ≡ 0
-
-  -- nor has the opening been passed; it is here unless printing starts
+  -- printing doesn't start before position k, nor has the opening been passed; it is here unless printing starts
   pub record Led (k : ℕ) : Type 0 where
-    pub ahead : Ahead k
+    pub short : k ≤ startIn
     pub early : k ≤ opening φ
     pub opened : k < startIn → opening φ ≤ k
 
-  -- from there on to position k stands the fill
-  pub record Filled (from k : ℕ) : Type 0 where
-    pub ahead : Ahead k
+  -- position k shows what a hidden one does
+  abbrev pub ShowsHidden : ℕ → Type 0
+  ShowsHidden k = getD f k 0 ≡ suppressed (φ .kind) (roleAt φ k)
+
+  -- printing doesn't start before position k, and from the opening on each position before it shows what a hidden one does
+  pub record HiddenTo (k : ℕ) : Type 0 where
+    pub short : k ≤ startIn
     pub opened : k < startIn → opening φ ≤ k
-    pub fills : (j : ℕ) → opening φ ≤ j → j < k → getD f j 0 ≡ fill (φ .kind)
-    pub kept : saidAt from ≡ saidAt k
+    pub hides : (j : ℕ) → opening φ ≤ j → j < k → ShowsHidden j
 
-  -- no fill stands here, unless printing starts
-  abbrev pub Unfilled : ℕ → Type 0
-  Unfilled k = k < startIn → getD f k 0 ≡ fill (φ .kind) → ⊥
+  -- this one doesn't, unless printing starts
+  abbrev pub Unhidden : ℕ → Type 0
+  Unhidden k = k < startIn → ShowsHidden k → ⊥
 
-  -- printing starts at `to`: the stretch shows the fill and, where its place is, the drifting character, which is `last`
+  -- printing doesn't start before position k, and between position `at` and it stand Bs alone, each with its blank
+  pub record BsBetween (at k : ℕ) : Type 0 where
+    pub short : k ≤ startIn
+    pub behind : at < k
+    pub blanks : (j : ℕ) → at < j → j < k → (isB (roleAt φ j) ≡ true) × ShowsHidden j
+
+  -- no B with its blank is here, unless printing starts
+  abbrev pub NoB : ℕ → Type 0
+  NoB k = k < startIn → isB (roleAt φ k) ≡ true → ShowsHidden k → ⊥
+
+  -- printing starts at `to`: the stretch, which begins at `from` if anywhere, shows what hidden positions do and the drifting character, which is `last`
   pub record Stopped (from to last : ℕ) : Type 0 where
     pub starts : startIn ≡ to
-    pub fills : (k : ℕ) → within k ≡ true → hasDrift k ≡ false → getD f k 0 ≡ fill (φ .kind)
-    pub ended : from < to → getD f (to - 1) 0 ≡ last
-    pub kept : saidAt from ≡ saidAt to
+    pub hides : (k : ℕ) → within k ≡ true → hasDrift k ≡ false → ShowsHidden k
+    pub ended : drifts (φ .kind) ≡ true → from < to → getD f (driftsTo φ (shown φ f)) 0 ≡ last
 
   pub record Hides (from : ℕ) (h : Hidden) : Type 0 where
     pub stopped : h .ok ≡ true → Stopped from (h .to) (h .last)

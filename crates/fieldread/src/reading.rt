@@ -8,20 +8,20 @@ use super::zones::lead;
 use roles::digits_at;
 use roles::is_nine;
 use roles::is_sign;
-use roles::marks::fill_of;
+use roles::marks::suppressed_of;
 use roles::sign_drifts;
 use rules::Picture;
 use rules::Reading;
 ghost use mathlib.Core.Path.{_≡_};
 ghost use mathlib.Core.Bool.{false};
 ghost use lib.Dec.{ltb};
-ghost use lib.ListN.{length};
+ghost use lib.ListN.{getD, length};
 ghost use Rattle.rules.specs.Words.{any, count, same};
 ghost use Rattle.rules.specs.Search.{upTo};
 ghost use Rattle.rules.specs.Roles.{isDigit, isNine, isSign};
 ghost use Rattle.rules.specs.Form.{formed};
 ghost use Rattle.rules.specs.Shape.{mostDigits};
-ghost use Rattle.rules.specs.Edit.{field as fieldOf, hasSign};
+ghost use Rattle.rules.specs.Edit.{field as fieldOf, hasSign, suppressed};
 ghost use Rattle.rules.specs.Candidate.{readOf, readingOf, worthOf};
 ghost use Rattle.fieldread.specs.Zones.{Asked, sidesOf};
 
@@ -89,19 +89,20 @@ fn is_signed(roles: &[u8], vee: usize, kind: u8) -> bool
     any_sign(roles)
 }
 
-// Whether every character is the fill.
-fn all_fill(field: &[u8], fill: u8) -> bool
-    ensures { λ r. ⌜ r ≡ same (upTo (length (now (field .entry))) (λ k. fill)) (now (field .entry)) ⌝ }
+// Whether every position shows what a hidden one does.
+fn all_hidden(roles: &[u8], kind: u8, field: &[u8]) -> bool
+    requires { ⌜ length (now field) ≡ length (now roles) ⌝ }
+    ensures { λ r. ⌜ r ≡ same (upTo (length (now (roles .entry))) (λ k. suppressed kind (getD (now (roles .entry)) k 0))) (now (field .entry)) ⌝ }
 {
-    for k in 0..field.len() {
-        if field[k] != fill {
+    for k in 0..roles.len() {
+        if field[k] != suppressed_of(kind, roles[k]) {
             return false;
         }
     }
     true
 }
 
-// Whether the field is that of the value with plus. Zero without a nine is all fill.
+// Whether the field is that of the value with plus. Zero without a nine is all hidden.
 fn is_plus(roles: &[u8], vee: usize, kind: u8, field: &[u8], sides: Said) -> bool
     requires { ⌜ Asked (formed (now roles) vee kind) (now field) × (sides ≡ sidesOf (formed (now roles) vee kind) (now field)) ⌝ }
     ensures { λ r. ⌜ r ≡ same (fieldOf (formed (now (roles .entry)) vee kind) false (worthOf (formed (now (roles .entry)) vee kind) (now (field .entry)))) (now (field .entry)) ⌝ }
@@ -110,7 +111,7 @@ fn is_plus(roles: &[u8], vee: usize, kind: u8, field: &[u8], sides: Said) -> boo
         if any_nine(roles) {
             return sides.plus;
         }
-        return all_fill(field, fill_of(kind));
+        return all_hidden(roles, kind, field);
     }
     sides.plus
 }

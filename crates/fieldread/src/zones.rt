@@ -1,5 +1,5 @@
-// A field in one pass, from left to right. Up to the first suppressible digit or drifting symbol the positions print; from there the
-// fill stands up to where printing starts, a drifting symbol's character last; the rest prints. The value is added up on the way, and
+// A field in one pass, from left to right. Up to the first suppressible digit or drifting symbol the positions print; from there they are
+// hidden up to where printing starts, a drifting symbol's character last but for Bs; the rest prints. The value is added up on the way, and
 // what tells the sign, marks and a punched digit, is compared for plus and for minus side by side.
 use roles::before_vee;
 use roles::does_drift;
@@ -8,18 +8,19 @@ use roles::figures::digit_in;
 use roles::figures::is_decimal;
 use roles::figures::list_in;
 use roles::figures::list_of;
+use roles::is_b;
 use roles::is_bare;
 use roles::is_digit;
 use roles::is_nine;
-use roles::marks::fill_of;
 use roles::marks::mark_of;
+use roles::marks::suppressed_of;
 ghost use mathlib.Core.Path.{_≡_};
 ghost use mathlib.Core.Bool.{true};
 ghost use Prim.Native.Nat.{_≤_, _<_, _^_};
 ghost use lib.Dec.{leb};
 ghost use Rattle.rules.specs.Form.{formed};
 ghost use Rattle.rules.specs.Shape.{mostDigits};
-ghost use Rattle.fieldread.specs.Zones.{digitStep, markStep, printStep, saidAt, saidIn, startIn, Led, Filled, Hides, Unfilled, Asked, sidesOf};
+ghost use Rattle.fieldread.specs.Zones.{digitStep, markStep, printStep, saidAt, saidIn, startIn, Led, HiddenTo, Unhidden, BsBetween, NoB, Hides, Asked, sidesOf};
 
 // What the positions passed say: the value of their digits, and whether what tells the sign is that of plus and that of minus. Positions
 // of the stretch have no part in it.
@@ -35,8 +36,8 @@ pub(crate) struct Passed {
     pub said: Said,
 }
 
-// The stretch up to where printing starts, which is `to`, and the last character in it. Where `ok` is false the field is no value's, and
-// the rest says nothing.
+// The stretch up to where printing starts, which is `to`; where a symbol drifts, `last` is the last character in it that is no B's. Where `ok`
+// is false the field is no value's, and the rest says nothing.
 pub(crate) struct Hidden {
     pub ok: bool,
     pub to: usize,
@@ -104,19 +105,39 @@ pub(crate) fn lead(roles: &[u8], vee: usize, kind: u8, field: &[u8]) -> Passed
     Passed { at: k, said: s }
 }
 
-// From there on to the first character that is no fill, if none of V and the nines comes before.
-fn filled(roles: &[u8], vee: usize, kind: u8, field: &[u8], from: usize) -> usize
+// From there on to the first character that a hidden position doesn't show, if none of V and the nines comes before.
+fn hidden_to(roles: &[u8], vee: usize, kind: u8, field: &[u8], from: usize) -> usize
     requires { ⌜ Asked (formed (now roles) vee kind) (now field) × Led (formed (now roles) vee kind) (now field) from ⌝ }
-    ensures { λ r. ⌜ Filled (formed (now (roles .entry)) vee kind) (now (field .entry)) from r × Unfilled (formed (now (roles .entry)) vee kind) (now (field .entry)) r ⌝ }
+    ensures { λ r. ⌜ HiddenTo (formed (now (roles .entry)) vee kind) (now (field .entry)) r × Unhidden (formed (now (roles .entry)) vee kind) (now (field .entry)) r ⌝ }
 {
     let end = before_vee(vee, roles.len());
-    let fill = fill_of(kind);
     let mut k = from;
     while k < end {
-        if is_nine(roles[k]) {
+        let role = roles[k];
+        if is_nine(role) {
             return k;
         }
-        if field[k] != fill {
+        if field[k] != suppressed_of(kind, role) {
+            return k;
+        }
+        k += 1;
+    }
+    k
+}
+
+// Past the Bs that stand with their blanks behind position `at`.
+fn past_bs(roles: &[u8], vee: usize, kind: u8, field: &[u8], at: usize) -> usize
+    requires { ⌜ Asked (formed (now roles) vee kind) (now field) × (at < startIn (formed (now roles) vee kind) (now field)) ⌝ }
+    ensures { λ r. ⌜ BsBetween (formed (now (roles .entry)) vee kind) (now (field .entry)) at r × NoB (formed (now (roles .entry)) vee kind) (now (field .entry)) r ⌝ }
+{
+    let end = before_vee(vee, roles.len());
+    let mut k = at + 1;
+    while k < end {
+        let role = roles[k];
+        if !is_b(role) {
+            return k;
+        }
+        if field[k] != suppressed_of(kind, role) {
             return k;
         }
         k += 1;
@@ -147,21 +168,19 @@ pub(crate) fn hide(roles: &[u8], vee: usize, kind: u8, field: &[u8], from: usize
     requires { ⌜ Asked (formed (now roles) vee kind) (now field) × Led (formed (now roles) vee kind) (now field) from ⌝ }
     ensures { λ r. ⌜ Hides (formed (now (roles .entry)) vee kind) (now (field .entry)) from r ⌝ }
 {
-    let at = filled(roles, vee, kind, field, from);
+    let at = hidden_to(roles, vee, kind, field, from);
     if does_start(roles, vee, kind, field, at) {
         return Hidden {
             ok: true,
             to: at,
-            last: fill_of(kind),
+            last: b' ',
         };
     }
-    if does_drift(kind) {
-        let to = at + 1;
-        return Hidden {
-            ok: does_start(roles, vee, kind, field, to),
-            to,
-            last: field[at],
-        };
+    if does_drift(kind) & !is_b(roles[at]) {
+        let to = past_bs(roles, vee, kind, field, at);
+        let ok = does_start(roles, vee, kind, field, to);
+        let last = field[at];
+        return Hidden { ok, to, last };
     }
     Hidden {
         ok: false,
@@ -196,7 +215,7 @@ fn rest(roles: &[u8], vee: usize, kind: u8, field: &[u8], from: usize, said: Sai
     s
 }
 
-// Behind the stretch of a field that `hide` lets pass. In a stretch that isn't empty the drifting character stands last.
+// Behind the stretch of a field that `hide` lets pass. In a stretch that isn't empty the drifting character is the last that is no B's.
 pub(crate) fn compared(
     roles: &[u8],
     vee: usize,

@@ -6,7 +6,7 @@ pub mod marks; // marks.rt: the other characters
 ghost use mathlib.Core.Path.{_≡_};
 ghost use Prim.Native.Nat.{_≤_, _<_, min};
 ghost use Rattle.rules.specs.Words.{one};
-ghost use Rattle.rules.specs.Roles.{isPunched, isNine, isDigit, isBare, opens, isSign, drifts, driftsSign};
+ghost use Rattle.rules.specs.Roles.{isPunched, isNine, isDigit, isBare, isB, opens, isSign, drifts, driftsSign};
 
 // T, I and R; a byte past the roles counts as one, and no form with it is good.
 pub fn is_punched(role: u8) -> bool
@@ -32,6 +32,13 @@ pub fn is_bare(role: u8) -> bool
     ensures { λ r. ⌜ r ≡ isBare role ⌝ }
 {
     role <= 1
+}
+
+// The insertion B; the second letter of DB has a role of its own.
+pub fn is_b(role: u8) -> bool
+    ensures { λ r. ⌜ r ≡ isB role ⌝ }
+{
+    role == 10
 }
 
 // How many digits the position holds: 1 or 0.

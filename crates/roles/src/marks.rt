@@ -1,9 +1,10 @@
 // The characters of roles that are no digits, and the marks CR and DB where a text ends in one.
+use super::is_b;
 ghost use mathlib.Core.Path.{_≡_};
 ghost use mathlib.Core.Bool.{cond};
 ghost use lib.ListN.{drop};
 ghost use Rattle.rules.specs.Text.{isMark};
-ghost use Rattle.rules.specs.Edit.{mark, fill};
+ghost use Rattle.rules.specs.Edit.{mark, suppressed};
 
 pub(crate) fn chosen(test: bool, yes: u8, no: u8) -> u8
     ensures { λ r. ⌜ r ≡ cond test yes no ⌝ }
@@ -39,12 +40,13 @@ pub fn mark_of(role: u8, negative: bool) -> u8
     }
 }
 
-// RULES 3.6: what a hidden position shows.
-pub fn fill_of(kind: u8) -> u8
-    ensures { λ r. ⌜ r ≡ fill kind ⌝ }
+// RULES 3.6: what a hidden position shows, the fill, or a blank for B. The kind is asked first, so that a loop over a field's positions need not ask
+// each for B where the fill is a blank.
+pub fn suppressed_of(kind: u8, role: u8) -> u8
+    ensures { λ r. ⌜ r ≡ suppressed kind role ⌝ }
 {
     if kind == 2 {
-        return b'*';
+        return chosen(is_b(role), b' ', b'*');
     }
     b' '
 }

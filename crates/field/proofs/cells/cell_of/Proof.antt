@@ -1,8 +1,8 @@
--- `cell_of`: inside the stretch the drifting character or the fill, outside it what the role prints. Assumes nothing.
+-- `cell_of`: inside the stretch the drifting character or what a hidden position shows, outside it what the role prints. Assumes nothing.
 use borrow.Author.Needs.{needs}
 use borrow.Author.Tests.{eq-eqb, ne-eqb}
 use mathlib.Core.Path.{sym, _∙_}
-use Rattle.rules.specs.Edit.{cell, suppressed}
+use Rattle.rules.specs.Edit.{cell}
 use Rattle.rules.proofs.Characters.{printed-bare, printed-mark, printed-punched}
 use Rattle.field.proofs.cells.cell_of.Statement.{statement}
 use Rattle.field.proofs.cells.cell_of.Tie as tie
@@ -12,8 +12,8 @@ unfolding cell
 returns c = rw (sym (c .before .before .before .before .is-inside .ensures) ∙ c .before .before .before .if1 .taken, eq-eqb _ _ (c .before .if2 .taken)) (c .mark-of .ensures)
 
 returns-2 : tie.Need-returns-2
-unfolding cell suppressed
-returns-2 c = rw (sym (c .before .before .before .before .is-inside .ensures) ∙ c .before .before .before .if1 .taken, ne-eqb _ _ (c .before .if2 .left)) (c .fill-of .ensures)
+unfolding cell
+returns-2 c = rw (sym (c .before .before .before .before .is-inside .ensures) ∙ c .before .before .before .if1 .taken, ne-eqb _ _ (c .before .if2 .left)) (c .suppressed-of .ensures)
 
 returns-3 : tie.Need-returns-3
 unfolding cell

@@ -1,10 +1,10 @@
--- `compared`: the rest prints, and the last character of the stretch is the drifting one. Assumes nothing.
+-- `compared`: the rest prints, and the last character of the stretch that is no B's is the drifting one. Assumes nothing.
 use borrow.Author.Needs.{needs}
 use mathlib.Core.Path.{_≡_, _∙_}
 use mathlib.Core.Bool.{true, false, _&&_}
 use lib.Dec.{ltb}
 use Rattle.rules.specs.Roles.{drifts}
-use Rattle.fieldread.proofs.Passing.{sides-drift, sides-plain}
+use Rattle.fieldread.proofs.Passing.{said-kept, sides-drift, sides-plain}
 use Rattle.fieldread.proofs.zones.compared.Statement.{statement}
 use Rattle.fieldread.proofs.zones.compared.Tie as tie
 
@@ -12,7 +12,7 @@ rest-requires : tie.Need-rest-requires
 rest-requires c κs =
     let b = c .before .before in
     let g = b .pre .3 .stopped (b .pre .4) in
-    (b .pre .0, b .pre .1 ∙ g .kept, g .starts)
+    (b .pre .0, b .pre .1 ∙ said-kept _ _ _ (b .pre .2) ∙ rw (g .starts), g .starts)
 
 returns : tie.Need-returns
 returns c =

@@ -8,20 +8,20 @@ use lib.ListN.{length}
 use Rattle.rules.specs.Roles.{isNine, opens}
 use Rattle.rules.specs.Form.{formed, roleAt}
 use Rattle.rules.specs.Edit.{opening}
-use Rattle.fieldread.specs.Zones.{Ahead, saidAt}
-use Rattle.fieldread.proofs.Passing.{ahead-first, lead-early, lead-here, lead-on, lead-out, lead-stop, no-digit, said-first, said-mark, start-least}
+use Rattle.fieldread.specs.Zones.{saidAt, startIn}
+use Rattle.fieldread.proofs.Passing.{lead-early, lead-here, lead-on, lead-out, lead-stop, no-digit, said-first, said-mark, start-least}
 use Rattle.fieldread.proofs.zones.lead.Statement.{statement}
 use Rattle.fieldread.proofs.zones.lead.Tie as tie
 
 abbrev Inv-loop : tie.InvT-loop
 Inv-loop roles vee kind field end s₀ k₀ s k =
-    (k ≤ end) × (end ≡ min vee (length roles)) × (s ≡ saidAt (formed roles vee kind) field k) × Ahead (formed roles vee kind) field k × (k ≤ opening (formed roles vee kind))
+    (k ≤ end) × (end ≡ min vee (length roles)) × (s ≡ saidAt (formed roles vee kind) field k) × (k ≤ startIn (formed roles vee kind) field) × (k ≤ opening (formed roles vee kind))
 
 abbrev μ-loop : tie.MeasureT-loop
 μ-loop roles vee kind field end s₀ k₀ s k = end - k
 
 loop-holds : tie.Need-loop-holds Inv-loop μ-loop
-loop-holds c = (omega arith, search needs, said-first _ _, ahead-first _ _, omega arith)
+loop-holds c = (omega arith, search needs, said-first _ _, omega arith, omega arith)
 
 returns : tie.Need-returns Inv-loop μ-loop
 returns c =
