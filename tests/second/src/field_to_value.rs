@@ -43,7 +43,7 @@ pub fn read(text: &[u8], field: &[u8]) -> Answer {
 /// If the field shows two values; the rules then would not say which is meant.
 pub fn value_of(picture: &Picture, field: &[u8]) -> Option<i64> {
     let mut values: Vec<i64> = looks(picture).iter().filter_map(|look| seen(picture, look, field)).collect();
-    if picture.every_digit_suppressible() && field == vec![picture.fill(); picture.n()] {
+    if picture.every_digit_suppressible() && field == cover(picture, &picture.symbols) {
         values.push(0);
     }
     values.dedup();
@@ -79,10 +79,12 @@ fn slots(picture: &Picture, start: usize, minus: bool) -> Vec<Slot> {
     for &symbol in lead {
         slots.extend(sight(symbol, minus).iter().map(|&c| Slot::Exactly(c)));
     }
-    slots.extend(hidden.iter().map(|_| Slot::Exactly(picture.fill())));
-    if let (Some(drifting), Some(last)) = (picture.drifting, slots.last_mut()) {
-        *last = Slot::Exactly(sight(drifting, minus)[0]);
+    let mut cover = cover(picture, hidden);
+    if let Some(drifting) = picture.drifting {
+        let last = hidden.iter().rposition(|&symbol| symbol != Symbol::B).expect("the first drifting symbol is hidden");
+        cover[last] = sight(drifting, minus)[0];
     }
+    slots.extend(cover.into_iter().map(Slot::Exactly));
     let mut digit = picture.digits.iter().filter(|&&at| at < start).count();
     for (past, &symbol) in printed.iter().enumerate() {
         if picture.digits.contains(&(start + past)) {
@@ -93,6 +95,13 @@ fn slots(picture: &Picture, start: usize, minus: bool) -> Vec<Slot> {
         }
     }
     slots
+}
+
+/// The characters that hide symbols: runs of the fill, parted by the blank of each B.
+fn cover(picture: &Picture, hidden: &[Symbol]) -> Vec<u8> {
+    let width = |run: &[Symbol]| run.iter().map(|symbol| symbol.width()).sum();
+    let runs = hidden.split(|&symbol| symbol == Symbol::B).map(|run| vec![picture.fill(); width(run)]);
+    runs.collect::<Vec<_>>().join(&b' ')
 }
 
 /// The characters under which a symbol other than a digit is seen outside the suppressed stretch.

@@ -24,7 +24,7 @@ pub const EDITED: &[(&str, i64, u64, &str)] = &[
     ("(3)9V9", 12345, 2, "1234"),
     ("99", 99, 0, "99"),
     ("99", -9, 1, "00"),
-    ("**B**", 5, 0, "****5"),
+    ("**B**", 5, 0, "**_*5"),
     ("99T", 123, 0, "12C"),
     ("99T", -123, 0, "12L"),
     ("99I", 123, 0, "12C"),
@@ -35,17 +35,36 @@ pub const EDITED: &[(&str, i64, u64, &str)] = &[
     ("9I", -1, 0, "01"),
     ("9R", -1, 0, "0J"),
     ("ZZT", 0, 0, "__{"),
+    ("**B**", 0, 0, "**_**"),
+    ("**DB", 0, 0, "****"),
+    ("$$B$$9", 123, 0, "_$_123"),
 ];
 
 /// Picture, M, q and the number of the refusal.
 pub const EDITING_REFUSED: &[(&str, i64, u64, u64)] = &[("99", 100, 0, 8), ("99", -1, 0, 8)];
 
 /// Picture, field and value.
-pub const READ: &[(&str, &str, i64)] = &[("ZZ9", "__7", 7), ("ZZZ", "___", 0), ("I", "{", 0), ("9T", "1}", -10)];
+pub const READ: &[(&str, &str, i64)] = &[
+    ("ZZ9", "__7", 7),
+    ("ZZZ", "___", 0),
+    ("I", "{", 0),
+    ("9T", "1}", -10),
+    ("**B**", "**_*5", 5),
+    ("**B**", "**_**", 0),
+    ("$$B$$9", "_$_123", 123),
+];
 
 /// Picture, field and the number of the refusal.
-pub const READING_REFUSED: &[(&str, &str, u64)] =
-    &[("ZZ9", "___", 10), ("ZZ9", "007", 10), ("I", "0", 10), ("T", "}", 10), ("9T", "0}", 10)];
+pub const READING_REFUSED: &[(&str, &str, u64)] = &[
+    ("ZZ9", "___", 10),
+    ("ZZ9", "007", 10),
+    ("I", "0", 10),
+    ("T", "}", 10),
+    ("9T", "0}", 10),
+    ("**B**", "****5", 10),
+    ("**B**", "*****", 10),
+    ("$$B$$9", "__$123", 10),
+];
 
 /// Picture, number and length; an accepted picture's length is its n.
 pub const CHECKED: &[(&str, u64, u64)] = &[

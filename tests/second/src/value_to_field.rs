@@ -52,7 +52,8 @@ fn power(exponent: usize) -> u128 {
 
 fn print(picture: &Picture, value: Aligned) -> Vec<u8> {
     if picture.every_digit_suppressible() && value.t == 0 {
-        return vec![picture.fill(); picture.n()];
+        let cover = |&symbol: &Symbol| vec![hidden(picture, symbol); symbol.width()];
+        return picture.symbols.iter().flat_map(cover).collect();
     }
     let shown = format!("{:0width$}", value.t, width = picture.digits.len()).into_bytes();
     let stretch = suppressed_stretch(picture, &shown);
@@ -60,10 +61,10 @@ fn print(picture: &Picture, value: Aligned) -> Vec<u8> {
     for (at, &symbol) in picture.symbols.iter().enumerate() {
         let digit = picture.digits.iter().position(|&d| d == at).map(|k| shown[k]);
         match (stretch.contains(&at), picture.drifting, digit) {
-            (true, Some(drifting), _) if at + 1 == stretch.end => {
+            (true, Some(drifting), _) if is_last_but_for_bs(&picture.symbols[at..stretch.end]) => {
                 field.extend_from_slice(character(drifting, value.negative));
             }
-            (true, _, _) => field.push(picture.fill()),
+            (true, _, _) => field.push(hidden(picture, symbol)),
             (false, _, Some(digit)) => field.push(figure(symbol, digit, value.negative)),
             (false, _, None) => field.extend_from_slice(character(symbol, value.negative)),
         }
@@ -71,7 +72,21 @@ fn print(picture: &Picture, value: Aligned) -> Vec<u8> {
     field
 }
 
-/// The places of the suppressed symbols. V is never among them, so the last place is a character position.
+/// What a hidden symbol shows at each of its positions.
+fn hidden(picture: &Picture, symbol: Symbol) -> u8 {
+    match symbol {
+        Symbol::B => b' ',
+        _ => picture.fill(),
+    }
+}
+
+/// Whether the first symbol is no B and all behind it are.
+fn is_last_but_for_bs(symbols: &[Symbol]) -> bool {
+    let is_b = |&symbol: &Symbol| symbol == Symbol::B;
+    !is_b(&symbols[0]) && symbols[1..].iter().all(is_b)
+}
+
+/// The places of the suppressed symbols. V is never among them, so each is a character position.
 fn suppressed_stretch(picture: &Picture, shown: &[u8]) -> Range<usize> {
     let from = picture.suppression_from().unwrap_or(picture.symbols.len());
     from..printing_starts(picture, shown).max(from)

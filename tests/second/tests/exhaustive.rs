@@ -133,7 +133,7 @@ fn search_agrees_with_enumeration_for_every_byte_under_one_position() {
 
 #[test]
 fn search_agrees_with_enumeration_under_marks() {
-    for plain in (1..=3).flat_map(|positions| texts(b"9Z*V,$", positions)) {
+    for plain in (1..=3).flat_map(|positions| texts(b"9Z*VB,$", positions)) {
         for mark in [b"CR", b"DB"] {
             if let Ok(picture) = Picture::of(&[&plain[..], mark].concat()) {
                 changed_fields_agree(&picture);
@@ -142,15 +142,31 @@ fn search_agrees_with_enumeration_under_marks() {
     }
 }
 
-/// Every known field with one byte changed is read as it is known.
+#[test]
+fn search_agrees_with_enumeration_under_bs() {
+    for letters in [b"9*BV.", b"9$BV.", b"9SBV.", b"9+BV.", b"9-BV."] {
+        for text in (4..=5).flat_map(|length| texts(letters, length)).filter(|text| text.contains(&b'B')) {
+            if let Ok(picture) = Picture::of(&text) {
+                changed_fields_agree(&picture);
+            }
+        }
+    }
+}
+
+/// Every known field with one byte changed, or two neighbours exchanged, the last with the first, is read as it is known.
 fn changed_fields_agree(picture: &Picture) {
     let known = fields(picture);
+    let agrees =
+        |field: &[u8]| assert_eq!(value_of(picture, field), known.get(field).copied(), "{picture:?} {field:?}");
     for field in known.keys().filter(|field| !field.iter().any(|byte| b"2345678".contains(byte))) {
         for at in 0..field.len() {
+            let mut changed = field.clone();
+            changed.swap(at, (at + 1) % field.len());
+            agrees(&changed);
             for &byte in CHARACTERS {
-                let mut changed = field.clone();
+                changed.clone_from(field);
                 changed[at] = byte;
-                assert_eq!(value_of(picture, &changed), known.get(&changed).copied(), "{picture:?} {changed:?}");
+                agrees(&changed);
             }
         }
     }

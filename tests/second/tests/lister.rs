@@ -97,6 +97,14 @@ fn punched_signs_are_listed_as_signs() {
 }
 
 #[test]
+fn blanks_of_b_are_listed_by_their_fields() {
+    gives(
+        b"**B**;$$B$$9;\n** *5 $ 123\n** **    $0\n50 00$1 234\n****5 $ 123\n** *5  $123\n",
+        "0,0,0,2,11\n1,0,0,5,123\n2,0,0,0,0\n3,0,0,5000,1234\n4,10,1\n5,10,2\n",
+    );
+}
+
+#[test]
 fn refused_records_do_not_stop_the_list() {
     gives(b"S9V9;99;\n-1207\n+0007\n-0007\n+12x7\n", "0,0,0,2,5\n1,0,0,-12,7\n2,0,0,0,7\n3,10,1\n4,10,2\n");
 }
