@@ -102,6 +102,46 @@ fn many_cases_have_a_punched_digit_of_either_sign() {
     }
 }
 
+/// What a field shows of the Bs of its picture: a blank behind asterisks and before all digits, one where all is suppressed under
+/// asterisks, one behind the drifting character; or an asterisk or the drifting character at a B.
+fn shown_of_bs(text: &[u8], field: &[u8]) -> [bool; 4] {
+    let picture = Picture::of(text).expect("an accepted text");
+    let drifting: &[u8] = match picture.drifting {
+        Some(Symbol::Dollar) => b"$",
+        Some(_) => b"+-",
+        None => b"",
+    };
+    let symbols: Vec<Symbol> = picture.symbols.iter().flat_map(|&symbol| vec![symbol; symbol.width()]).collect();
+    let (blank, other): (Vec<usize>, Vec<usize>) =
+        (0..field.len()).filter(|&at| symbols[at] == Symbol::B).partition(|&at| field[at] == b' ');
+    let bare = |part: &[u8]| part.contains(&b'*') && !part.iter().any(u8::is_ascii_alphanumeric);
+    let drifts = |byte: &u8| drifting.contains(byte);
+    [
+        blank.iter().any(|&at| bare(&field[..at])),
+        !blank.is_empty() && bare(field),
+        blank.iter().any(|&at| field[..at].last().is_some_and(drifts)),
+        other.iter().any(|&at| field[at] == b'*' || drifts(&field[at])),
+    ]
+}
+
+#[test]
+fn many_cases_hide_a_b() {
+    let (mut edited, mut read, mut refused) = ([0; 4], [0; 4], [0; 4]);
+    for (case, reply) in answered("edit", 25, 8_000).iter().chain(&answered("read", 26, 8_000)) {
+        let (counts, shown) = match (case, reply.number()) {
+            (Case::Edit { text, .. }, 0) => {
+                (&mut edited, shown_of_bs(text, &reply.memory[..(reply.packed / 65_536) as usize]))
+            }
+            (Case::Read { text, field, .. }, 0) => (&mut read, shown_of_bs(text, field)),
+            (Case::Read { text, field, .. }, 10) => (&mut refused, shown_of_bs(text, field)),
+            _ => continue,
+        };
+        counts.iter_mut().zip(shown).for_each(|(count, shown)| *count += usize::from(shown));
+    }
+    let many = edited[..3].iter().chain(&read[..3]).all(|&count| count > 30) && refused[3] > 300;
+    assert!(many && edited[3] == 0 && read[3] == 0, "{edited:?} {read:?} {refused:?}");
+}
+
 #[test]
 fn plans_with_every_byte_are_run_and_refused() {
     let cases = answered("layout", 20, 12_000);

@@ -3,6 +3,7 @@
 use super::random::Random;
 use super::values;
 use crate::rules_of_shape::Picture;
+use crate::text_to_symbols::Symbol;
 use crate::value_to_field::field_of;
 
 const CHARACTERS: &[u8] = b"0123456789 *+-$,./CRDB{}AIJN";
@@ -52,6 +53,11 @@ pub fn damaged(random: &mut Random, picture: &Picture, mut field: Vec<u8>) -> Ve
         other_figure(random, &mut field, punched.unwrap_or(at));
         return field;
     }
+    let bs = telling_bs(picture);
+    if !bs.is_empty() && random.percent(60) {
+        other_cover(random, picture, &mut field, &bs);
+        return field;
+    }
     match random.below(10) {
         0 | 1 => field[at] = random.pick(CHARACTERS),
         2 => field[at] = random.byte(),
@@ -72,7 +78,62 @@ pub fn damaged(random: &mut Random, picture: &Picture, mut field: Vec<u8>) -> Ve
 /// The position that a punched digit has in the fields of a picture.
 fn punched_position(picture: &Picture) -> Option<usize> {
     let at = picture.symbols.iter().position(|symbol| symbol.is_punched())?;
-    Some(picture.symbols[..at].iter().map(|symbol| symbol.width()).sum())
+    Some(position(picture, at))
+}
+
+/// The position that the symbol at a place has in the fields of a picture.
+fn position(picture: &Picture, at: usize) -> usize {
+    picture.symbols[..at].iter().map(|symbol| symbol.width()).sum()
+}
+
+/// The positions of the Bs in fields that can hide with other characters than blanks.
+fn telling_bs(picture: &Picture) -> Vec<usize> {
+    let tells = picture.drifting.is_some() || picture.fill() == b'*';
+    let is_b = |&at: &usize| tells && picture.symbols[at] == Symbol::B;
+    (0..picture.symbols.len()).filter(is_b).map(|at| position(picture, at)).collect()
+}
+
+/// Hides otherwise, in a field with Bs at these positions.
+fn other_cover(random: &mut Random, picture: &Picture, field: &mut [u8], bs: &[usize]) {
+    let characters: &[u8] = match picture.drifting {
+        Some(Symbol::Dollar) => b"$",
+        Some(_) => b"+-",
+        None => return other_fill(random, field, bs),
+    };
+    match field.iter().position(|byte| characters.contains(byte)) {
+        Some(at) => other_drift(random, field, bs, at),
+        None => field[random.pick(bs)] = random.pick(characters),
+    }
+}
+
+/// Asterisks for the blanks of Bs, or the other way round.
+fn other_fill(random: &mut Random, field: &mut [u8], bs: &[usize]) {
+    let shown = field.iter().position(|byte| byte.is_ascii_alphanumeric()).unwrap_or(field.len());
+    let stars: Vec<usize> = (0..field.len()).filter(|&at| field[at] == b'*').collect();
+    let b = random.pick(bs);
+    match random.below(6) {
+        0..=2 => bs.iter().filter(|&&b| b < shown).for_each(|&b| field[b] = b'*'),
+        3 => field[b] = b'*',
+        4 => field.swap(b.saturating_sub(1), b),
+        _ if stars.is_empty() => field[b] = b'*',
+        _ => field[random.pick(&stars)] = b' ',
+    }
+}
+
+/// The drifting character, which stands at a position, elsewhere: on the last of the Bs that follow, beside its place, on any B;
+/// missing; or in two places.
+fn other_drift(random: &mut Random, field: &mut [u8], bs: &[usize], at: usize) {
+    let following = (at + 1..).take_while(|next| bs.contains(next)).last();
+    let beside = if random.percent(50) { at.saturating_sub(1) } else { (at + 1).min(field.len() - 1) };
+    let any = random.pick(bs);
+    match (random.below(10), following) {
+        (0..=4, Some(following)) => field.swap(at, following),
+        (0..=5, _) => field.swap(at, beside),
+        (6, _) => field.swap(at, any),
+        (7, _) => field[at] = b' ',
+        (8, _) => field[beside] = field[at],
+        _ => field[any] = field[at],
+    }
 }
 
 /// A digit with another sign punched over it or none, most times that at the position; at times all digits become zeros first.

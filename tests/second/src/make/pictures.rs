@@ -15,11 +15,12 @@ const EDGES: &str = "\
     $,S|V|B|CR|DB|VCR|V$9|VS9|9V-|9-V|9V$|9VCR|$V$|V$$|VSS|S$S|$S$|$$S9|S$$9|$$9S|$$S|-$$|SS$9|$SS9|\
     SS9$|(16)$|(17)$|(15)Z|(16)Z|(15)9|(16)9|9Z|Z*|*Z|ZSS|$$Z|ZZ9VZ|ZVZ|Z9V9|9VZ|ZV9|*V*|**V9|9$9|$9$|\
     9S9|S9S|S9CR|-9DB|+9-|S9-|$$9CR|SS9CR|$$SS|++--|,ZZ|ZZ,|V.ZZ|VZZ|V,.Z|ZZZ.VZZ|$$,9|+ZZ|+++|ZV.9|\
-    **B**|*CR|$*DB|ZDB|T|I|R|9T|9I|9R|T9|R99|99T9|9CR|RCR|9RCR|CRR|9CRR|TCR|IDB|RDB|RDR|9VR|VRCR|(1)T|(01)I|\
-    (2)T|(02)I|(3)I|(2)R|(01)R|9(1)R|(1)RCR|TT|II|RR|TI|IR|T9R|T,T|S9T|T9S|+T|T-|-9I|SST|--T|++9R|T--|ST$|\
-    $T|T$|9$R|R$9|ZT|*I|ZZV9T|$$,$$T|$$R|**T|TZ|I*|T$$|Z9TZ|ZT9|ZVT|ZVZT|TVZ|*V*R|ZTVZ|TV9|9VT|VT|TV|9VTV|\
-    V,T|T.V|BTB|(13)9T9|(14)9T|(15)9T|(14)ZR|(15)ZR|(15)$T|(16)$T|(64)T|(63)BT|(63)BR|(62)BTV|(63)BTV|(61)BTCR|\
-    z9|9 9|9;9|t9|9Y9|F9|9E9|99K|A9|9X|9\n|9\0";
+    **B**|*CR|$*DB|ZDB|B*|*B|*B*|**BB9|*BV*|*VB*|B**BB.**V9|*BCR|*BDB|**DB|$$B$$9|$$B9|$$BB9|$B$9|$BB$|$B$|\
+    $B$BV.99|$$B.99|$$.B99|$$VB$|B$$B$|$$BDB|--B9|-B-B-|++B+9V.99|S$B$|SBS|SSBBVBS|T|I|R|9T|9I|9R|T9|R99|99T9|\
+    9CR|RCR|9RCR|CRR|9CRR|TCR|IDB|RDB|RDR|9VR|VRCR|(1)T|(01)I|(2)T|(02)I|(3)I|(2)R|(01)R|9(1)R|(1)RCR|TT|II|RR|\
+    TI|IR|T9R|T,T|S9T|T9S|+T|T-|-9I|SST|--T|++9R|T--|ST$|$T|T$|9$R|R$9|ZT|*I|ZZV9T|$$,$$T|$$R|**T|TZ|I*|T$$|\
+    Z9TZ|ZT9|ZVT|ZVZT|TVZ|*V*R|ZTVZ|TV9|9VT|VT|TV|9VTV|V,T|T.V|BTB|(13)9T9|(14)9T|(15)9T|(14)ZR|(15)ZR|(15)$T|\
+    (16)$T|(64)T|(63)BT|(63)BR|(62)BTV|(63)BTV|(61)BTCR|z9|9 9|9;9|t9|9Y9|F9|9E9|99K|A9|9X|9\n|9\0";
 
 /// A text, accepted in so many of a hundred.
 pub fn text(random: &mut Random, accepted_percent: usize) -> Vec<u8> {
@@ -68,7 +69,16 @@ fn built(random: &mut Random) -> Vec<u8> {
     let end = front.len();
     front.extend(back);
     stray_v(random, &mut front, start, end, drifts);
-    sprinkle(random, &mut front, 64 - mark.len());
+    let room = 64 - mark.len();
+    let percent = match lead {
+        b'9' => 0,
+        b'Z' => 15,
+        _ => 45,
+    };
+    if random.percent(percent) {
+        hide_bs(random, &mut front, lead, room);
+    }
+    sprinkle(random, &mut front, room);
     let mut text = factored(random, &front);
     text.extend(mark);
     text
@@ -110,6 +120,23 @@ fn stray_v(random: &mut Random, symbols: &mut [u8], start: usize, end: usize, dr
     } else if symbols[end - 1] == b'V' {
         let to = random.between(end - 1, symbols.len() - 1);
         symbols[end - 1..=to].rotate_left(1);
+    }
+}
+
+/// Puts runs of B among the leads, where they can be hidden: anywhere, behind the last, beside V, at times before all.
+fn hide_bs(random: &mut Random, symbols: &mut Vec<u8>, lead: u8, room: usize) {
+    for _ in 0..random.pick(&[1, 1, 1, 2, 3]) {
+        let first = symbols.iter().position(|&s| s == lead).unwrap_or(0);
+        let last = symbols.iter().rposition(|&s| s == lead).unwrap_or(0);
+        let v = symbols.iter().position(|&s| s == b'V').unwrap_or(last);
+        let at = match random.below(10) {
+            0 => first,
+            1..=3 => last + 1,
+            4 => v + random.below(2),
+            _ => random.between(first + 1, last + 1),
+        };
+        let run = random.pick(&[1, 1, 1, 2, 3]).min(room.saturating_sub(symbols.len()));
+        symbols.splice(at..at, std::iter::repeat_n(b'B', run));
     }
 }
 

@@ -3,6 +3,7 @@
 use super::random::Random;
 use crate::collector;
 use crate::rules_of_shape::Picture;
+use crate::text_to_symbols::Symbol;
 
 const LIMIT: i64 = 1_000_000_000_000_000;
 const EDGE_SCALES: &[u64] = &[0, 1, 2, 7, 14, 15, 15, 16, 17, 255, 256, 65_536, u64::MAX];
@@ -26,7 +27,13 @@ pub fn for_picture(random: &mut Random, picture: &Picture) -> (i64, u64) {
 
 /// M that fits the picture at its own scale.
 pub fn fitting(random: &mut Random, picture: &Picture) -> i64 {
-    let m = magnitude(random, picture.digits.len());
+    let shown = shown_behind_bs(picture);
+    let m = if !shown.is_empty() && random.percent(30) {
+        let digits = random.pick(&shown);
+        of_digits(random, digits)
+    } else {
+        magnitude(random, picture.digits.len())
+    };
     if picture.signed() && random.percent(50) {
         -m
     } else {
@@ -64,6 +71,28 @@ pub fn magnitude(random: &mut Random, digits: usize) -> i64 {
         _ => random.number() as i64 % power(digits),
     };
     m.abs() % power(digits)
+}
+
+/// How many digits are shown where printing starts directly behind a B that is hidden then, for each such place; and 0 where a B is
+/// hidden with everything else.
+fn shown_behind_bs(picture: &Picture) -> Vec<usize> {
+    let from = picture.suppression_from().unwrap_or(picture.symbols.len());
+    let starts = picture.digits.iter().chain(&picture.v).copied().filter(|&start| start > from);
+    let behind_b = starts.filter(|&start| picture.symbols[start - 1] == Symbol::B);
+    let digits_from = |start: usize| picture.digits.iter().filter(|&&at| at >= start).count();
+    let mut shown: Vec<usize> = behind_b.map(digits_from).collect();
+    if picture.every_digit_suppressible() && picture.symbols.contains(&Symbol::B) {
+        shown.push(0);
+    }
+    shown
+}
+
+/// A number of so many digits, the first of them not 0.
+fn of_digits(random: &mut Random, digits: usize) -> i64 {
+    match digits {
+        0 => 0,
+        _ => random.between(power(digits - 1) as usize, power(digits) as usize - 1) as i64,
+    }
 }
 
 /// A negative value, most times, whose magnitude the cut at scale f leaves zero.
