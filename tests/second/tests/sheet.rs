@@ -65,7 +65,7 @@ fn plan_of_a_punched_digit() {
 #[test]
 fn manual_examples() {
     let all = examples();
-    assert_eq!(all.len(), 81);
+    assert_eq!(all.len(), 83);
     for (text, example) in all {
         let picture = Picture::of(text.as_bytes()).expect(text);
         match example {
