@@ -2,7 +2,7 @@
 //! address.
 
 use crate::judge::Counts;
-use crate::look::{PRINTED, PUNCHED};
+use crate::look::{HIDDEN_AS, PRINTED, PUNCHED};
 use crate::plan::Field;
 use std::mem::MaybeUninit;
 use std::ptr;
@@ -25,38 +25,65 @@ pub static POWER: [u64; 16] = POWERS;
 /// The field is judged and has these counts, and there is room for its characters.
 #[inline(always)]
 pub unsafe fn edit_field(field: Field, counts: &Counts, m: i64, out: *mut u8) {
-    static FILLS: [[u8; 16]; 2] = [[b' '; 16], [b'*'; 16]];
+    if counts.rare {
+        edit_any::<true>(field, counts, m, out);
+    } else {
+        edit_any::<false>(field, counts, m, out);
+    }
+}
+
+/// Edits a value that fits. Only with `RARE` are there T, I, R or B.
+///
+/// # Safety
+/// As `edit_field`.
+#[inline(always)]
+unsafe fn edit_any<const RARE: bool>(field: Field, counts: &Counts, m: i64, out: *mut u8) {
     let t = m.unsigned_abs();
-    let filled = FILLS[(field.kind == 2) as usize].as_ptr();
+    let hidden = HIDDEN_AS[(field.kind == 2) as usize].as_ptr();
     if t == 0 && counts.suppressible {
-        ptr::write_bytes(out, *filled, field.n);
+        if RARE {
+            hide(field.roles, field.n, hidden, out);
+        } else {
+            ptr::write_bytes(out, *hidden, field.n);
+        }
         return;
     }
     // the digits that take the fill: leading zeros that may, and stand before V
     let cut = (counts.digits - length_of(t)).min(counts.hidden) as usize;
     let mut text = MaybeUninit::uninit();
-    let start = digits_of(t, counts.digits, cut, filled, &mut text);
+    let start = digits_of(t, counts.digits, cut, hidden, &mut text);
     let printed = PRINTED[(m < 0) as usize].as_ptr();
-    if counts.punched {
-        Pick::<true> { next: start, start, cut, printed, filled }.field(field, out);
+    Pick::<RARE> { next: start, start, cut, printed, hidden }.field(field, out);
+    if RARE && counts.signed {
         punch(field, m, out);
-    } else {
-        Pick::<false> { next: start, start, cut, printed, filled }.field(field, out);
     }
 }
 
-/// Puts the punched digit where the plain one stands. It is looked for from the end, where most fields have it.
+/// Hides each position of a field. Its loop stands apart, so that it takes no registers from fields without B.
 ///
 /// # Safety
-/// The field has T, I or R, and its characters are there.
+/// The n roles are those of a good field without a nine, and there is room for its characters.
+#[inline(never)]
+unsafe fn hide(roles: *const u8, n: usize, hidden: *const u8, out: *mut u8) {
+    for at in 0..n {
+        *out.add(at) = *hidden.add(*roles.add(at) as usize);
+    }
+}
+
+/// Puts the punched digit, if there is one, where the plain one stands. It is looked for from the end, where most fields have it.
+///
+/// # Safety
+/// The field is judged, and its characters are there.
 #[inline(always)]
 unsafe fn punch(field: Field, m: i64, out: *mut u8) {
-    let mut at = field.n - 1;
-    while *field.roles.add(at) < 15 {
-        at -= 1;
+    for at in (0..field.n).rev() {
+        let role = *field.roles.add(at) as usize;
+        if role >= 15 {
+            let list = PUNCHED[(m < 0) as usize].get_unchecked(role - 15);
+            *out.add(at) = *list.get_unchecked((*out.add(at) - b'0') as usize);
+            return;
+        }
     }
-    let list = PUNCHED[(m < 0) as usize].get_unchecked(*field.roles.add(at) as usize - 15);
-    *out.add(at) = *list.get_unchecked((*out.add(at) - b'0') as usize);
 }
 
 /// How many digits a number below 10^15 has; 1 for 0.
@@ -70,13 +97,13 @@ fn length_of(t: u64) -> u32 {
 /// The address of the first of so many digits of a number, with the fill for the first `cut` of them and for the places before.
 ///
 /// # Safety
-/// The text has 32 bytes: 16 to spare, then 16 for at most 15 digits; the fills are 16.
+/// The text has 32 bytes: 16 to spare, then 16 for at most 15 digits; the first eight of `hidden` are fill.
 #[inline(always)]
-unsafe fn digits_of(t: u64, digits: u32, cut: usize, filled: *const u8, text: &mut MaybeUninit<[u8; 32]>) -> *const u8 {
+unsafe fn digits_of(t: u64, digits: u32, cut: usize, hidden: *const u8, text: &mut MaybeUninit<[u8; 32]>) -> *const u8 {
     const ZEROS: u64 = u64::from_ne_bytes([b'0'; 8]);
     const HALF: u64 = POWERS[8];
     let text = text.as_mut_ptr() as *mut u8;
-    let fills = ptr::read_unaligned(filled as *const u64);
+    let fills = ptr::read_unaligned(hidden as *const u64);
     let mut low = t;
     if digits > 8 {
         low = t % HALF;
@@ -106,16 +133,16 @@ fn eight_digits(t: u64) -> u64 {
 }
 
 /// Picks the characters of a field: `next` is the digit to come, `cut` how many digits take the fill, the first at `start`. With
-/// `PUNCHED` T, I and R are digits too.
-struct Pick<const PUNCHED: bool> {
+/// `RARE` T, I and R are digits too, and a drifting character passes over B.
+struct Pick<const RARE: bool> {
     next: *const u8,
     start: *const u8,
     cut: usize,
     printed: *const u8,
-    filled: *const u8,
+    hidden: *const u8,
 }
 
-impl<const PUNCHED: bool> Pick<PUNCHED> {
+impl<const RARE: bool> Pick<RARE> {
     /// The characters of a field.
     ///
     /// # Safety
@@ -137,14 +164,17 @@ impl<const PUNCHED: bool> Pick<PUNCHED> {
             let reached = self.all::<true, true>(before);
             let inside = self.next as usize - self.start as usize > self.cut;
             self.all::<false, false>(after);
-            let drift = if inside { reached - 1 } else { field.v };
+            let mut drift = if inside { reached - 1 } else { field.v };
+            while RARE && *field.roles.add(drift - 1) == 10 {
+                drift -= 1;
+            }
             *out.add(drift - 1) = *self.printed.add(field.kind);
         }
     }
 
     /// The characters of some positions, two at a time: a digit, or the first drifting symbol, is the next one; another is what it
-    /// prints or, in the stretch, the fill. With `DRIFTS` it answers how many positions there are up to the first digit that
-    /// prints.
+    /// prints or, in the stretch, what it is hidden as. With `DRIFTS` it answers how many positions there are up to the first digit
+    /// that prints.
     ///
     /// # Safety
     /// There are so many low roles and as much room, and no more digits than stand from `next` on.
@@ -171,9 +201,9 @@ impl<const PUNCHED: bool> Pick<PUNCHED> {
     unsafe fn one<const STRETCH: bool, const DRIFTS: bool>(&mut self, role: u8, out: *mut u8) -> usize {
         let taken = self.next as usize - self.start as usize;
         let inside = STRETCH && taken.wrapping_sub(1) < self.cut;
-        let other = if inside { self.filled } else { self.printed };
+        let other = if inside { self.hidden } else { self.printed };
         // with one added, digits and no others are 0 to 3 above a multiple of 16
-        let digit = if PUNCHED { (role + 1) & 15 <= 3 } else { role <= 2 };
+        let digit = if RARE { (role + 1) & 15 <= 3 } else { role <= 2 };
         *out = *if digit { self.next } else { other.add(role as usize) };
         self.next = self.next.add(digit as usize);
         (DRIFTS && taken <= self.cut) as usize

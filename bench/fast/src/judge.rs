@@ -12,8 +12,8 @@ pub struct Counts {
     /// Whether all of them are suppressible.
     pub suppressible: bool,
     pub signed: bool,
-    /// Whether one of the digits, where the shape is right, is T, I or R.
-    pub punched: bool,
+    /// Whether a digit is T, I or R, or an insertion is B.
+    pub rare: bool,
 }
 
 /// The counts of a field, and whether it is good: its shape is right, and it has 15 digits at most.
@@ -44,7 +44,7 @@ pub unsafe fn counted(field: Field) -> (Counts, bool) {
         hidden: suppressible.min(whole),
         suppressible: suppressible == digits,
         signed: ended & 2 != 0,
-        punched: count & 0x100 != 0,
+        rare: count & 0xff00 != 0,
     };
     (counts, ended != 0)
 }
@@ -52,10 +52,10 @@ pub unsafe fn counted(field: Field) -> (Counts, bool) {
 /// The machine and the count over some roles, two at a time.
 #[inline(always)]
 unsafe fn count_on(mut roles: *const u8, n: usize, mut state: usize, mut count: u32) -> (usize, u32) {
-    // by role: one digit in the lowest byte, one punched in the next, one suppressible in the high half
+    // by role: one digit in the lowest byte, one that is rare in the next, one suppressible in the high half
     static WEIGHT: [u32; ROLES] = {
         let mut table = [0; ROLES];
-        (table[0], table[1]) = (1, 0x10001);
+        (table[0], table[1], table[10]) = (1, 0x10001, 0x100);
         (table[15], table[16], table[17]) = (0x101, 0x101, 0x101);
         table
     };

@@ -1,8 +1,8 @@
 //! The looks that a field of the right shape can have, as one machine over its positions. What moves it is the sort of a character
 //! under its role.
 //!
-//! The machine ends in PRINTING, with NEGATIVE added if the value is negative, exactly when the characters are those of some value
-//! that is not all fill; the value itself is added up apart.
+//! The machine ends in PRINTING, with NEGATIVE added if the value is negative, exactly when the characters are those of some value,
+//! and not everything is suppressed; the value itself is added up apart.
 
 use crate::plan::ROLES;
 
@@ -23,10 +23,10 @@ const MINUS: u8 = 7; //        and where it is
 const STILL_PLUS: u8 = 8; //   the second letter of a mark, likewise
 const STILL_MINUS: u8 = 9;
 const ITSELF: u8 = 10; //      $, comma, period or slash
-const BLANK: u8 = 11; //       that of B, which may be fill
+const BLANK: u8 = 11; //       that of B
 const HIDDEN: u8 = 12; //      one of HIDING for a digit or the first drifting symbol: 12 to 16
 const LAST_HIDDEN: u8 = 16;
-const INSIDE: u8 = 17; //      one of them for an insertion: 17 to 21
+const INSIDE: u8 = 17; //      one of them for a comma, period or slash: 17 to 21
 const LAST_INSIDE: u8 = 21;
 const V: u8 = 22; //           no character, but V
 
@@ -36,7 +36,7 @@ const HIDING: [u8; 5] = *b" *+-$";
 // A state is kind * 8 + phase * 2 + 1 if negative. Kind 7 prints; state 0 is no look.
 const PRINTS: u8 = 56;
 const NONE: u8 = 0;
-// The phases: outside the stretch, in it with fill alone, and in it with the drifting character just seen.
+// The phases: outside the stretch, in it with fill alone, and in it with the drifting character seen. B leaves each as it is.
 const OUTSIDE: u8 = 0;
 const FILLED: u8 = 1;
 const DRIFTED: u8 = 2;
@@ -47,6 +47,9 @@ pub const NEGATIVE: usize = ROW as usize;
 
 /// What a role prints outside the stretch, where the value isn't negative and where it is.
 pub static PRINTED: [[u8; 16]; 2] = [*b"00 ++ $,./     \0", *b"00 - -$,./ CRDB\0"];
+
+/// What a role shows where it is hidden: the fill, which is a blank or `*`, and for B a blank.
+pub static HIDDEN_AS: [[u8; 16]; 2] = [*b"                ", *b"********** *****"];
 
 /// What T, I and R print for each digit, where the value isn't negative and where it is.
 pub static PUNCHED: [[[u8; 10]; 3]; 2] =
@@ -95,7 +98,7 @@ const fn sort(role: u8, byte: u8) -> u8 {
         12 | 14 => of_sign(role, byte, STILL_PLUS, STILL_MINUS),
         10 if byte == b' ' => BLANK,
         6..=9 if byte == PRINTED[0][role as usize] => ITSELF,
-        7..=10 => hiding(byte, INSIDE),
+        7..=9 => hiding(byte, INSIDE),
         15..=17 => match punched(role, byte) {
             Some((_, false)) => NINE_PLUS,
             Some((_, true)) => NINE_MINUS,
@@ -154,8 +157,7 @@ const fn behind(state: u8, sort: u8) -> u8 {
         (MINUS, OUTSIDE) => signed(state, 1),
         (STILL_PLUS, OUTSIDE) if state & 1 == 0 => state,
         (STILL_MINUS, OUTSIDE) if state & 1 == 1 => state,
-        (ITSELF | BLANK, OUTSIDE) => state,
-        (BLANK, FILLED) => behind_hidden(state, b' '),
+        (ITSELF, OUTSIDE) | (BLANK, _) => state,
         (HIDDEN..=LAST_HIDDEN, OUTSIDE | FILLED) if kind != 7 => behind_hidden(state, HIDING[(sort - HIDDEN) as usize]),
         (INSIDE..=LAST_INSIDE, FILLED) => behind_hidden(state, HIDING[(sort - INSIDE) as usize]),
         _ => NONE,

@@ -149,7 +149,8 @@ impl Walk {
     #[inline(always)]
     pub unsafe fn number(&self, field: Field, characters: *const u8) -> Option<i64> {
         if self.value == 0 {
-            return is_zero(self.look, field.kind, field.roles, characters, field.n).then_some(0);
+            let is_zero = if field.kind == 2 { is_zero::<true> } else { is_zero::<false> };
+            return is_zero(self.look, field.roles, characters, field.n).then_some(0);
         }
         if self.look & !NEGATIVE != PRINTING {
             return None;
@@ -159,21 +160,21 @@ impl Walk {
     }
 }
 
-/// Whether this is the field of zero, which prints with a nine and is all fill without. The parts of the field come one by one, so
-/// that they stay in registers.
+/// Whether this is the field of zero, which prints with a nine and is hidden without. With `STARS` the fill is `*`. The parts of
+/// the field come one by one, so that they stay in registers.
 ///
 /// # Safety
 /// There are n roles and as many characters.
 #[inline(never)]
-unsafe fn is_zero(look: usize, kind: usize, roles: *const u8, characters: *const u8, n: usize) -> bool {
-    let fill = if kind == 2 { b'*' } else { b' ' };
-    let mut nine = false;
-    let mut other = 0;
+unsafe fn is_zero<const STARS: bool>(look: usize, roles: *const u8, characters: *const u8, n: usize) -> bool {
+    let (mut nine, mut other) = (0, 0);
     for at in 0..n {
-        nine |= matches!(*roles.add(at), 0 | 15..=17);
-        other |= *characters.add(at) ^ fill;
+        let role = *roles.add(at);
+        // the high bit, for 0 and for 15 and above, which are the nines
+        nine |= role.wrapping_sub(1) | (role + 113);
+        other |= *characters.add(at) ^ if STARS && role != 10 { b'*' } else { b' ' };
     }
-    if nine {
+    if nine & 128 != 0 {
         look == PRINTING
     } else {
         other == 0
