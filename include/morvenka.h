@@ -55,9 +55,9 @@ extern "C" {
 #endif
 
 /* The version of this header and its library, as text and as numbers; docs/COLLECTOR.md says what changes which number. */
-#define MORVENKA_VERSION "1.1.0"
-#define MORVENKA_VERSION_MAJOR 1
-#define MORVENKA_VERSION_MINOR 1
+#define MORVENKA_VERSION "2.0.0"
+#define MORVENKA_VERSION_MAJOR 2
+#define MORVENKA_VERSION_MINOR 0
 #define MORVENKA_VERSION_PATCH 0
 
 /* The numbers that come back. */
