@@ -2,4 +2,3 @@ pub mod Table
 pub mod Signs
 pub mod Parts
 pub mod Cut
-pub mod Room

@@ -3,7 +3,7 @@
 -- Assumes nothing.
 use mathlib.Core.Path.{_≡_, refl, sym, _∙_, ap}
 use mathlib.Core.Bool.{Bool, true, false, false≢true}
-use Prim.Native.Nat.{ℕ, zero, suc, _^_, _≤_, _<_, zero-le}
+use Prim.Native.Nat.{ℕ, zero, suc, _+_, _^_, _≤_, _<_, zero-le}
 use native.Mathlib.Nat.{zero-add}
 use native.Mathlib.Omega.{arith}
 use lib.IntN.{ℤ, pos, negsuc, negℤ, natAbs, _-ℤ_, +ℤ-idl}
@@ -45,6 +45,15 @@ is-neg : (z : ℤ) → isNegative z ≡ true → pos 0 -ℤ z ≡ pos (natAbs z)
 is-neg (pos n) s = absurd (false≢true s)
 is-neg (negsuc n) s = ap pos (zero-add (suc n))
 
+abs-le : (z : ℤ) → SFits w64 z → natAbs z ≤ 2 ^ 63
+abs-le (pos n) f = omega (arith, f .sfits)
+abs-le (negsuc n) f = omega (arith, f .sfits)
+
+-- one more than n is the magnitude, and n is what the number leaves of -1
+under : (z : ℤ) → SFits w64 z → isNegative z ≡ true → (n : ℕ) × (n < 2 ^ 63) × (n + 1 ≡ natAbs z) × (negsuc 0 -ℤ z ≡ pos n)
+under (pos n) f s = absurd (false≢true s)
+under (negsuc n) f s = (n, f .sfits, omega arith, rw (le-ltb (suc n) 1 (omega arith)) (ap pos (omega arith)))
+
 -- what the code's tests and casts say
 module _ {z : ℤ} (f : SFits w64 z) where
   pub below : (k : ℕ) → leZ (toZ w64 (ofZ w64 z)) (negsuc k) ≡ true → k < natAbs z
@@ -68,6 +77,12 @@ module _ {z : ℤ} (f : SFits w64 z) where
 
   pub as-neg-cast : isNegative z ≡ true → natAbs z < 2 ^ 63 → toZ w64 (ofZ w64 (pos 0 -ℤ toZ w64 (ofZ w64 z))) ≡ pos (natAbs z)
   as-neg-cast s h = rw (as-neg s) (toZ-pos w64 h)
+
+  pub size : natAbs z ≤ 2 ^ 63
+  size = abs-le z f
+
+  pub as-under : isNegative z ≡ true → (n : ℕ) × (n < 2 ^ 63) × (n + 1 ≡ natAbs z) × (negsuc 0 -ℤ toZ w64 (ofZ w64 z) ≡ pos n)
+  as-under s = rw (toZ-ofZ f) (under z f s)
 
 -- and from a magnitude, its negation
 module _ (t : ℕ) (h : t < 2 ^ 63) where

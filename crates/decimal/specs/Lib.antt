@@ -1,3 +1,2 @@
 pub mod Sign
 pub mod Align
-pub mod Digits

@@ -1,6 +1,7 @@
 // A signed number as a sign and a magnitude.
 use rules::Picture;
 ghost use mathlib.Core.Path.{_≡_};
+ghost use lib.IntN.{natAbs};
 ghost use Rattle.decimal.specs.Sign.{partsOf};
 
 // Where `fits` is false the number is 10^15 or more from zero, and the rest is empty.
@@ -44,4 +45,14 @@ pub fn split(m: i64) -> Parts
         negative: false,
         magnitude,
     }
+}
+
+// The magnitude of any number. Nothing is negated, so the least number is safe.
+pub fn magnitude(number: i64) -> u64
+    ensures { λ r. ⌜ r ≡ natAbs number ⌝ }
+{
+    if number < 0 {
+        return (-1 - number) as u64 + 1;
+    }
+    number as u64
 }

@@ -1,4 +1,7 @@
 pub mod Loops
-pub mod Whole
-pub mod Calls
-pub mod Laws
+pub mod Left
+pub mod Bytes
+pub mod Hidden
+pub mod Field
+pub mod Turns
+pub mod Puts

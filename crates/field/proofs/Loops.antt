@@ -1,30 +1,27 @@
--- One law for each way through a loop of this crate: what a turn adds to what has been counted, shown, written or compared, and where a
+-- One law for each way through a loop over roles, here and in the crates above: what a turn adds to what has been counted, shown or compared, and where a
 -- search stops. Assumes nothing.
-use mathlib.Core.Path.{_≡_, refl, sym, _∙_}
+use mathlib.Core.Path.{_≡_, sym, _∙_}
 use mathlib.Core.Bool.{Bool, true, false, not, _&&_, _||_, and-false, or-assoc, or-false, or-true}
-use mathlib.Core.List.{List, [], _∷_, _++_, append-assoc}
+use mathlib.Core.List.{List, [], _∷_, _++_}
 use Prim.Native.Nat.{ℕ, zero, suc, _+_, _-_, _<_, _≤_, min}
 use native.Mathlib.Nat.{not-suc-le-zero, le-of-suc-le-suc}
 use native.Mathlib.Numerals.{add-one}
 use native.Mathlib.Omega.{arith}
 use borrow.Author.Tests.{eq-eqb, leb-false, leb-true, ltb-false, ltb-true, ne-eqb}
 use lib.Dec.{eqb, leb, ltb}
-use lib.ListN.{length, getD, take, drop, set, replicate, drop-of-length-le}
-use lib.Seq.{drop-cons, drop-nil, set-at, take-nil}
+use lib.ListN.{length, getD, take, drop, drop-of-length-le}
+use lib.Seq.{drop-cons, drop-nil, take-nil}
 use Rattle.rules.specs.Words.{any, count, one, same}
 use Rattle.rules.specs.Search.{first, upTo}
 use Rattle.rules.specs.Roles.{isDigit, isNine, opens}
-use Rattle.rules.specs.Form.{Form, formed, roleAt, size}
-use Rattle.rules.specs.Edit.{cell, digitAt, firstShown, isShown, opening, start}
+use Rattle.rules.specs.Form.{Form, roleAt, size}
+use Rattle.rules.specs.Edit.{digitAt, opening, start}
 use Rattle.rules.specs.Candidate.{digitIn, shownIn}
 use Rattle.rules.proofs.Logic.{by-test}
 use Rattle.rules.proofs.Lists.{count-split}
 use Rattle.rules.proofs.Search.{first-here, first-le, first-more, getD-upTo, length-upTo}
 use Rattle.rules.proofs.Fields.{tail-at}
 use Rattle.rules.proofs.Stretch.{counts, start-simple}
-use Rattle.field.specs.Results.{roomOf}
-use Rattle.field.specs.Steps.{cellIn, isInside}
-use Rattle.field.specs.declared.stretch.Stretch.{Stretch}
 
 -- Members with p before position k, and from position k on, one position on.
 module _ (p : ℕ → Bool) where
@@ -35,12 +32,6 @@ module _ (p : ℕ → Bool) where
   count-next (r ∷ rs) (suc k) h =
       let ih = rw (add-one k) at (count-next rs k (le-of-suc-le-suc h)) in
       rw add-one (by-test (p r) (λ q. rw (q, ih) (omega arith)) (λ q. rw (q, ih)))
-
-  pub count-more : (rs : List ℕ) (k : ℕ) → k < length rs → p (getD rs k 0) ≡ true → count p (take (k + 1) rs) ≡ count p (take k rs) + 1
-  count-more rs k h e = rw e at (count-next rs k h)
-
-  pub count-same : (rs : List ℕ) (k : ℕ) → k < length rs → p (getD rs k 0) ≡ false → count p (take (k + 1) rs) ≡ count p (take k rs)
-  count-same rs k h e = let q = rw e at (count-next rs k h) in omega arith
 
   -- from the end: the members from position k - 1 on
   module _ (rs : List ℕ) (k : ℕ) (h : 0 < k) (l : k ≤ length rs) where
@@ -130,10 +121,6 @@ module _ (φ : Form) where
   unfolding opening
   opening-more k h l e = first-more (λ j. opens (roleAt φ j)) (size φ) k h l e
 
-  pub opening-end : (k : ℕ) → k ≤ opening φ → size φ ≤ k → size φ ≡ opening φ
-  unfolding opening
-  opening-end k h l = let m = first-le (λ j. opens (roleAt φ j)) (size φ) in omega arith
-
   module _ (ds : List ℕ) where
     -- the first position that holds a nine or a nonzero digit
     unfoldable pub counted : ℕ
@@ -163,37 +150,8 @@ module _ (φ : Form) where
     unfolding counted
     counted-le = first-le (λ j. counts φ ds j) (size φ)
 
--- what a form has beside its roles does not move its opening, nor its kind the start
-pub opening-any : (rs : List ℕ) (v k : ℕ) → opening (formed rs 0 0) ≡ opening (formed rs v k)
-unfolding opening
-opening-any rs v k = refl
-
-pub start-any : (rs : List ℕ) (v k : ℕ) (ds : List ℕ) → start (formed rs v 0) ds ≡ start (formed rs v k) ds
-unfolding start firstShown isShown digitAt
-start-any rs v k ds = refl
-
--- the cell at k, as a loop has its parts: j digits stand before position k
-pub cell-now : (rs : List ℕ) (kind : ℕ) (s : Stretch) (ds : List ℕ) (negative : Bool) (k j d : ℕ) → d ≡ getD ds j 0 → j ≡ count isDigit (take k rs)
-    → cell kind (getD rs k 0) (isInside s k) (eqb k (s .spot)) negative d ≡ cellIn rs kind s ds negative k
-unfolding cellIn
-cell-now rs kind s ds negative k j d e q = rw (e, q)
-
--- A store of x into a room of n places, of which those of xs are filled.
-pub store-more : (xs : List ℕ) (n k x : ℕ) → length xs ≡ k → k < n → set (xs ++ replicate (n - k) 0) k x ≡ (xs ++ (x ∷ [])) ++ replicate (n - (k + 1)) 0
-store-more xs n k x l h =
-    let e : n - k ≡ suc (n - (k + 1)) = omega arith in
-    rw (e, append-assoc) (set-at xs 0 (replicate (n - (k + 1)) 0) x k l)
-
-pub room-made : (xs cs : List ℕ) (n : ℕ) → cs ≡ xs ++ replicate (64 - n) 0 → n ≡ length xs → record { chars = cs; count = n } ≡ roomOf xs
-unfolding roomOf
-room-made xs cs n e l = rw (e, l)
-
--- Characters f 0, f 1, .. that are written into a room, or compared with bytes.
+-- Characters f 0, f 1, .. that are compared with bytes.
 module _ (f : ℕ → ℕ) where
-  pub put-more : (n k v : ℕ) (out : List ℕ) → k < n → out ≡ upTo k f ++ replicate (n - k) 0 → v ≡ f k → set out k v ≡ upTo (k + 1) f ++ replicate (n - (k + 1)) 0
-  unfolding upTo
-  put-more n k v out h e q = rw (e, q, store-more _ n k (f k) (length-upTo f k) h, add-one)
-
   module _ (n k : ℕ) (bytes : List ℕ) (l : length bytes ≡ n) (e : same (drop k (upTo n f)) (drop k bytes) ≡ same (upTo n f) bytes) where
     next : k < n → (eqb (f k) (getD bytes k 0) && same (drop (k + 1) (upTo n f)) (drop (k + 1) bytes)) ≡ same (upTo n f) bytes
     unfolding same

@@ -1,41 +1,26 @@
 // One field of one form: what a value's characters are. A form comes as its parts, the roles of
 // its positions, the number of positions before V, and the kind of suppression. Each call answers for every input.
-mod cells; // cells.rt: the characters of a field, written
-mod stretch; // stretch.rt: which positions are suppressed
-mod survey; // survey.rt: one pass over the roles, for measuring and editing
+mod reach; // reach.rt: where positions can be hidden
+mod step; // step.rt: what one position prints, and what is left of the magnitude before it
+pub mod survey; // survey.rt: what the roles have, in one pass or less
+mod writing; // writing.rt: the characters of a field, written into lent bytes
 
-use cells::put;
-use decimal::digits::digits;
 use roles::sign_drifts;
-use rules::Picture;
-use stretch::is_blank;
-use stretch::stretch_of;
+use roles::table::Characters;
+use survey::any_nine;
 use survey::survey_of;
+use writing::put_blank;
+use writing::put_shown;
 ghost use mathlib.Core.Path.{_≡_};
-ghost use mathlib.Core.List.{[]};
 ghost use Rattle.rules.specs.Form.{formed};
-ghost use Rattle.field.specs.Results.{measureOf, roomOf, fieldRoom};
+ghost use Rattle.copying.specs.Copy.{copied};
+ghost use Rattle.field.specs.Results.{fieldBy, measureOf};
 
 // The digits before and after V, and whether the form has a sign.
 pub struct Measured {
     pub whole: usize,
     pub places: usize,
     pub signed: bool,
-}
-
-// The characters of a field with their count; unused places are 0.
-pub struct Field {
-    pub chars: [u8; Picture::MOST_SYMBOLS],
-    pub count: usize,
-}
-
-fn empty() -> Field
-    ensures { λ r. ⌜ r ≡ roomOf [] ⌝ }
-{
-    Field {
-        chars: [0; Picture::MOST_SYMBOLS],
-        count: 0,
-    }
 }
 
 pub fn measure(roles: &[u8], vee: usize, kind: u8) -> Measured
@@ -49,21 +34,32 @@ pub fn measure(roles: &[u8], vee: usize, kind: u8) -> Measured
     }
 }
 
-// The field of a sign and a magnitude at the form's own scale; digits above the form's own are not shown. A form with more
-// positions or digits than a picture may have gives an empty room.
-pub fn edit(roles: &[u8], vee: usize, kind: u8, negative: bool, t: u64) -> Field
-    ensures { λ r. ⌜ r ≡ fieldRoom (formed (now (roles .entry)) vee kind) negative t ⌝ }
+// The field of a sign and a magnitude at the form's own scale, by a table of characters, into the bytes of `out` from byte `from` on; nothing where it
+// doesn't fit. Of a magnitude with more digits than the form the last ones print, and nothing is hidden.
+pub fn put(
+    table: &Characters,
+    roles: &[u8],
+    vee: usize,
+    kind: u8,
+    negative: bool,
+    t: u64,
+    out: &mut [u8],
+    from: usize,
+)
+    ensures memory { λ _. ⌜ now (out .exit) ≡ copied (fieldBy (now (table .entry)) (formed (now (roles .entry)) vee kind) negative t) from (now (out .entry)) ⌝ }
 {
-    if Picture::MOST_SYMBOLS < roles.len() {
-        return empty();
+    let room = out.len();
+    if room < roles.len() {
+        return;
     }
-    let seen = survey_of(roles, vee);
-    let count = seen.whole + seen.places;
-    if Picture::MOST_DIGITS < count {
-        return empty();
+    if room - roles.len() < from {
+        return;
     }
-    let made = digits(t, count);
-    let ds = made.at;
-    let stretch = stretch_of(roles, vee, kind, &ds, is_blank(seen.nine, t));
-    put(roles, kind, stretch, &ds, negative)
+    if t == 0 {
+        if !any_nine(roles) {
+            put_blank(roles, kind, out, from);
+            return;
+        }
+    }
+    put_shown(table, roles, vee, kind, negative, t, out, from);
 }

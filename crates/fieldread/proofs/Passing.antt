@@ -17,7 +17,7 @@ use lib.ListN.{length, getD, take, drop, length-take}
 use lib.Seq.{take-length, take-suc}
 use Rattle.rules.specs.Words.{any, count, same}
 use Rattle.rules.specs.Search.{upTo}
-use Rattle.rules.specs.Digits.{valueOf}
+use Rattle.rules.specs.Digits.{digitsOf, valueOf}
 use Rattle.rules.specs.Text.{isDecimal}
 use Rattle.rules.specs.Roles.{drifts, isB, isBare, isDigit, isFirstDrifting, isNine, isPunched, isSuppressible, opens}
 use Rattle.rules.specs.Form.{Form, roleAt, size}
@@ -25,8 +25,8 @@ use Rattle.rules.specs.Shape.{digitCount, mostDigits}
 use Rattle.rules.specs.Edit.{allSuppressible, cell, cellAt, digitAt, driftsTo, field, inStretch, isBlank, mark, opening, printed, suppressed}
 use Rattle.rules.specs.Candidate.{digitIn, readOf, shown, shownIn, worthOf}
 use Rattle.rules.proofs.Characters.{b-no-digit, digit-shows, digit-small, hidden-blank, hidden-shows, printed-bare, unpunched-char}
-use Rattle.rules.proofs.Digits.{ten-le, ten-pos, value-digits, value-snoc}
-use Rattle.rules.proofs.Exact.{shown-small}
+use Rattle.rules.proofs.Digits.{digits-value, ten-le, ten-pos, value-digits, value-snoc}
+use Rattle.rules.proofs.Exact.{shown-digits, shown-length, shown-small}
 use Rattle.rules.proofs.Fields.{field-blank, field-cells, shown-field, tail-at}
 use Rattle.rules.proofs.Lists.{same-eq}
 use Rattle.rules.proofs.Logic.{both, by-test, eqb-swap, neither}
@@ -36,7 +36,11 @@ use Rattle.fieldread.specs.declared.zones.Said.{Said}
 use Rattle.fieldread.specs.Zones.{HiddenTo, ShowsHidden, Hides, Led, Stopped, BsBetween, NoB, digitStep, fineAt, hasDrift, isFine, markStep, markedAt, printStep, saidAt, saidIn, sidesOf, soFar, startIn, valueTo, within}
 use Rattle.fieldread.proofs.Cases.{reads-other, reads-zero}
 use Rattle.field.proofs.Loops.{count-part, counted, counted-digit, counted-le, counted-nine, counted-other, counted-zero, opening-here, opening-more, shown-more, shown-same, start-counted}
-use Rattle.field.proofs.Whole.{worth-digits}
+
+-- the digits that a field shows are the digits of what they are worth
+worth-digits : (φ : Form) (f : List ℕ) → digitsOf (digitCount φ) (worthOf φ f) ≡ shown φ f
+unfolding worthOf
+worth-digits φ f = rw (← shown-length (φ .roles) f) (digits-value (shown φ f) (shown-digits (φ .roles) f))
 
 -- Tests of every place below n, and two lists compared by them.
 so-false : (p : ℕ → Bool) (n k : ℕ) → k < n → p k ≡ false → soFar p n ≡ false

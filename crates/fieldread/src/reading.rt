@@ -5,23 +5,22 @@ use super::zones::Said;
 use super::zones::compared;
 use super::zones::hide;
 use super::zones::lead;
+use field::survey::any_nine;
+use field::survey::is_signed;
 use roles::digits_at;
-use roles::is_nine;
-use roles::is_sign;
 use roles::marks::suppressed_of;
-use roles::sign_drifts;
 use rules::Picture;
 use rules::Reading;
 ghost use mathlib.Core.Path.{_≡_};
 ghost use mathlib.Core.Bool.{false};
 ghost use lib.Dec.{ltb};
 ghost use lib.ListN.{getD, length};
-ghost use Rattle.rules.specs.Words.{any, count, same};
+ghost use Rattle.rules.specs.Words.{count, same};
 ghost use Rattle.rules.specs.Search.{upTo};
-ghost use Rattle.rules.specs.Roles.{isDigit, isNine, isSign};
+ghost use Rattle.rules.specs.Roles.{isDigit};
 ghost use Rattle.rules.specs.Form.{formed};
 ghost use Rattle.rules.specs.Shape.{mostDigits};
-ghost use Rattle.rules.specs.Edit.{field as fieldOf, hasSign, suppressed};
+ghost use Rattle.rules.specs.Edit.{field as fieldOf, suppressed};
 ghost use Rattle.rules.specs.Candidate.{readOf, readingOf, worthOf};
 ghost use Rattle.fieldread.specs.Zones.{Asked, sidesOf};
 
@@ -43,50 +42,6 @@ pub(crate) fn is_many(roles: &[u8]) -> bool
         }
     }
     true
-}
-
-// From the end, where the nines stand as a rule.
-fn any_nine(roles: &[u8]) -> bool
-    ensures { λ r. ⌜ r ≡ any isNine (now (roles .entry)) ⌝ }
-{
-    let mut k = roles.len();
-    while 0 < k {
-        k -= 1;
-        if is_nine(roles[k]) {
-            return true;
-        }
-    }
-    false
-}
-
-// A sign stands at one of the ends as a rule: the first position is looked at, and then all from the end.
-fn any_sign(roles: &[u8]) -> bool
-    ensures { λ r. ⌜ r ≡ any isSign (now (roles .entry)) ⌝ }
-{
-    let mut k = roles.len();
-    if k == 0 {
-        return false;
-    }
-    if is_sign(roles[0]) {
-        return true;
-    }
-    while 0 < k {
-        k -= 1;
-        if is_sign(roles[k]) {
-            return true;
-        }
-    }
-    false
-}
-
-// Where a sign drifts the roles aren't looked at.
-fn is_signed(roles: &[u8], vee: usize, kind: u8) -> bool
-    ensures { λ r. ⌜ r ≡ hasSign (formed (now (roles .entry)) vee kind) ⌝ }
-{
-    if sign_drifts(kind) {
-        return true;
-    }
-    any_sign(roles)
 }
 
 // Whether every position shows what a hidden one does.

@@ -3,7 +3,6 @@ use Prim.Native.Nat.{ℕ}
 use mathlib.Core.Path.{_≡_, sym, _∙_}
 use mathlib.Core.Bool.{true}
 use mathlib.Core.List.{List, [], _∷_}
-use native.Mathlib.Omega.{arith}
 use borrow.Author.Tests.{eq-eqb, ne-eqb, le-leb}
 use lib.Dec.{eqb}
 use lib.IntN.{ℤ, pos}
@@ -18,14 +17,14 @@ use Rattle.rules.specs.Answers.{unread, said, readAnswer, ReadIs}
 use Rattle.rules.specs.Good.{good}
 use Rattle.rules.specs.Candidate.{readOf, readingOf}
 use Rattle.rules.proofs.Firsts.{first-here, first-next, refuses}
-use Rattle.rules.proofs.Forms.{few-digits, good-parts}
+use Rattle.rules.proofs.Forms.{few-digits}
 use Rattle.rules.proofs.Outcomes.{none-in, read-is, value-in}
 use Rattle.fieldread.specs.Results.{readIn}
 use Rattle.picture.specs.Calls.{Narrow, saidAnswer}
 
 -- an accepted picture's form is narrow
 pub narrow : (φ : Form) → good φ ≡ true → Narrow φ
-narrow φ h = record { positions = omega (arith, good-parts φ h .size); digits = few-digits φ h }
+narrow φ h = record { digits = few-digits φ h }
 
 module _ (φ : Form) (f : List ℕ) where
   pub other-length : (length f ≡ size φ → ⊥) → record { number = 9; field = 0; length = 0; value = pos 0 } ≡ saidAnswer φ f

@@ -7,16 +7,14 @@ use lib.IntN.{ℤ, pos}
 use lib.ListN.{length}
 use Rattle.rules.specs.declared.Answer.{Answer}
 use Rattle.rules.specs.Numbers.{VALUE, ROOM, SIZE, LENGTH, when, unless, firstOf}
-use Rattle.rules.specs.Text.{mostSymbols}
 use Rattle.rules.specs.Form.{Form, size}
 use Rattle.rules.specs.Shape.{mostDigits, digitCount}
 use Rattle.rules.specs.Edit.{inRange, tooBig, edited}
 use Rattle.rules.specs.Answers.{answer, lentAfter, unread, said}
 use Rattle.rules.specs.Candidate.{readOf}
 
--- as many positions and digits as a picture may have
+-- no more digits than a picture may have
 pub record Narrow (φ : Form) : Type 0 where
-  pub positions : size φ ≤ mostSymbols
   pub digits : digitCount φ ≤ mostDigits
 
 -- 6, 8, 7

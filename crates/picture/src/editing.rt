@@ -1,6 +1,7 @@
-// A value as the field of a picture. The field is made beside the lent memory and copied there when no refusal can come any more.
+// A value as the field of a picture, written straight into the lent memory when no refusal can come any more.
 use answer::refused;
 use form::form_of;
+use roles::table::character_table;
 use rules::Answer;
 use rules::Picture;
 use value::settle;
@@ -25,10 +26,17 @@ fn edit_form(roles: &[u8], vee: usize, kind: u8, m: i64, q: usize, out: &mut [u8
     if out.len() < roles.len() {
         return refused(7, 0);
     }
-    let field = field::edit(roles, vee, kind, settled.negative, settled.t);
-    let chars = field.chars;
-    let count = field.count;
-    copying::put(&chars[0..count], out, 0);
+    let table = character_table();
+    field::put(
+        &table,
+        roles,
+        vee,
+        kind,
+        settled.negative,
+        settled.t,
+        out,
+        0,
+    );
     answer::done(roles.len(), 0)
 }
 
@@ -39,7 +47,7 @@ pub(crate) fn edit_picture(picture: Picture, m: i64, q: usize, out: &mut [u8]) -
     ensures memory { λ _. ⌜ now (out .exit) ≡ formMemory (formOf (heldIn picture)) m q (now (out .entry)) ⌝ }
 {
     let form = form_of(picture);
-    let roles = form.roles;
+    let roles = &form.roles[..];
     let size = form.size;
     edit_form(&roles[0..size], form.vee, form.kind, m, q, out)
 }

@@ -32,7 +32,7 @@ pub(crate) fn read_picture(picture: Picture, field: &[u8]) -> Answer
     ensures { λ r. ⌜ r ≡ saidAnswer (formOf (heldIn picture)) (now (field .entry)) ⌝ }
 {
     let form = form_of(picture);
-    let roles = form.roles;
+    let roles = &form.roles[..];
     let size = form.size;
     read_form(&roles[0..size], form.vee, form.kind, field)
 }

@@ -24,7 +24,7 @@ fn judge_form(picture: Picture) -> Judged
     ensures { λ r. ⌜ r ≡ judgedOf (formOf (heldIn picture)) ⌝ }
 {
     let form = form_of(picture);
-    let roles = form.roles;
+    let roles = &form.roles[..];
     let size = form.size;
     shape::judge(&roles[0..size], form.vee, form.kind)
 }

@@ -12,7 +12,6 @@ use Rattle.rules.specs.Layout.{recordLength}
 use Rattle.rules.specs.Good.{good}
 use Rattle.rules.specs.PlanBytes.{allGood, formsIn}
 use Rattle.rules.proofs.Logic.{both}
-use Rattle.rules.proofs.Forms.{good-parts}
 use Rattle.rules.proofs.PlanWalk.{PlanParts, fieldCount, widthAt, formAt, formsAt, walk-start, walk-step}
 use Rattle.plan.specs.Widths.{widthsAt}
 use Rattle.plan.proofs.Sums.{plan-widths, widths-step}
@@ -56,9 +55,6 @@ module _ (b : List ℕ) (i at : ℕ) (w : Walking b i at) (l : i < fieldCount b)
 
   pub walking-good : good (formAt b i at) ≡ true
   walking-good = fine-both .0
-
-  pub walking-narrow : widthAt b i ≤ 64
-  walking-narrow = omega (arith, walking-length, good-parts (formAt b i at) walking-good .size)
 
   pub walking-step : Walking b (i + 1) (at + widthAt b i)
   unfolding recordLength

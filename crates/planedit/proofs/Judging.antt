@@ -12,9 +12,8 @@ use Rattle.rules.specs.Numbers.{badField, firstOf, later}
 use Rattle.rules.specs.PlanBytes.{formsIn}
 use Rattle.rules.specs.Answers.{editVerdicts, fieldNumber}
 use Rattle.rules.proofs.PlanWalk.{PlanParts, fieldCount, formAt, formsAt, plan-parts, walk-end, walk-start, walk-step, widthAt}
-use Rattle.rules.specs.Shape.{places}
-use Rattle.value.specs.declared.Settled.{Settled}
-use Rattle.value.specs.Settling.{settledOf}
+use Rattle.decimal.proofs.Table.{powers}
+use Rattle.value.specs.Settling.{ownNumber}
 use Rattle.plan.proofs.Parts.{Walking, walking-good, walking-start, walking-step, walking-within}
 use Rattle.planedit.specs.declared.Bad.{Bad}
 use Rattle.planedit.specs.Rows.{Matched, Within, bad, badOf}
@@ -86,22 +85,21 @@ module _ (b : List ℕ) (row : List ℤ) (p : Matched b row) where
       let q : at ≡ 3 * fieldCount b + 3 = omega (arith, p .each) in
       rw q (record { walk = walking-start b parts; left = rw (walk-start b) })
 
-  module _ (i at : ℕ) (j : Judged b row i at) (l : i < length row)
-      (z : ℤ) (v : z ≡ getD row i (pos 0)) (s : Settled) (e : s ≡ settledOf (formAt b i at) z (places (formAt b i at))) where
+  module _ (i at : ℕ) (j : Judged b row i at) (l : i < length row) (z : ℤ) (v : z ≡ getD row i (pos 0)) (n : ℕ) (e : n ≡ ownNumber powers (formAt b i at) z) where
     within-count : i < fieldCount b
     within-count = omega (arith, p .each)
 
-    number : s .number ≡ fieldNumber (formAt b i at) (getD row i (pos 0))
-    number = number-is _ _ (walking-good b i at (j .walk) within-count) s (e ∙ rw v)
+    number : n ≡ fieldNumber (formAt b i at) (getD row i (pos 0))
+    number = e ∙ rw v (number-is _ _ (walking-good b i at (j .walk) within-count))
 
-    whole : badFrom i (s .number ∷ editVerdicts (formsAt b (i + 1) (at + widthAt b i)) (drop (i + 1) row)) ≡ badFrom 0 (editVerdicts (formsIn b) row)
+    whole : badFrom i (n ∷ editVerdicts (formsAt b (i + 1) (at + widthAt b i)) (drop (i + 1) row)) ≡ badFrom 0 (editVerdicts (formsIn b) row)
     whole = rw (number, ← verdicts-step b row i at within-count l) (j .left)
 
-    pub judged-bad : (s .number ≡ 0 → ⊥) → bad (s .number) (i + 1) ≡ badOf (editVerdicts (formsIn b) row)
-    judged-bad n = sym (bad-here i (s .number) _ n) ∙ whole ∙ bad-is (editVerdicts (formsIn b) row)
+    pub judged-bad : (n ≡ 0 → ⊥) → bad n (i + 1) ≡ badOf (editVerdicts (formsIn b) row)
+    judged-bad h = sym (bad-here i n _ h) ∙ whole ∙ bad-is (editVerdicts (formsIn b) row)
 
-    pub judged-step : s .number ≡ 0 → Judged b row (i + 1) (at + widthAt b i)
-    judged-step n = record { walk = walking-step b i at (j .walk) within-count; left = sym (bad-next i (s .number) _ n) ∙ whole }
+    pub judged-step : n ≡ 0 → Judged b row (i + 1) (at + widthAt b i)
+    judged-step h = record { walk = walking-step b i at (j .walk) within-count; left = sym (bad-next i n _ h) ∙ whole }
 
   pub judged-end : (i at : ℕ) → Judged b row i at → length row ≤ i → bad 0 0 ≡ badOf (editVerdicts (formsIn b) row)
   unfolding editVerdicts badFrom

@@ -1,29 +1,22 @@
 -- The pass that writes: what is left of the record, written behind what has been written, gives the whole record. Assumes nothing.
 use mathlib.Core.Path.{_≡_, refl, sym, _∙_}
-use mathlib.Core.Bool.{true}
 use mathlib.Core.List.{List, [], _∷_, _++_}
-use Prim.Native.Nat.{ℕ, _+_, _-_, _*_, _<_, _≤_}
-use native.Mathlib.Nat.{sub-zero}
+use Prim.Native.Nat.{ℕ, _+_, _*_, _<_, _≤_}
 use native.Mathlib.Omega.{arith}
 use lib.IntN.{ℤ, pos}
-use lib.ListN.{length, getD, take, drop, length-append}
+use lib.ListN.{length, getD, drop, length-append}
 use lib.Seq.{length-sets, sets}
 use Rattle.rules.specs.Form.{Form}
 use Rattle.rules.specs.Numbers.{firstOf}
-use Rattle.rules.specs.Good.{good}
 use Rattle.rules.specs.Layout.{recordLength}
 use Rattle.rules.specs.PlanBytes.{formsIn}
 use Rattle.rules.specs.Answers.{editVerdicts, fieldNumber, fieldOf, recordOf}
 use Rattle.rules.proofs.Firsts.{first-zero}
 use Rattle.rules.proofs.Lists.{sets-append, sets-front}
 use Rattle.rules.proofs.PlanWalk.{PlanParts, count-forms-in, fieldCount, formAt, formsAt, walk-end, walk-start, walk-step, widthAt}
-use Rattle.copying.specs.Copy.{copied}
-use Rattle.copying.proofs.Copies.{copied-in}
-use Rattle.field.specs.declared.Field.{Field}
-use Rattle.field.specs.Results.{roomOf}
-use Rattle.plan.proofs.Parts.{Walking, walking-good, walking-length, walking-narrow, walking-start, walking-step, walking-within}
+use Rattle.plan.proofs.Parts.{Walking, walking-length, walking-start, walking-step, walking-within}
 use Rattle.planedit.specs.Rows.{Fine, Ready}
-use Rattle.planedit.proofs.Values.{edited-size, made-chars, made-count}
+use Rattle.planedit.proofs.Values.{edited-size}
 use Rattle.planedit.proofs.Judging.{field-within, parts, row-step, verdicts-step}
 
 -- the field, and those behind it
@@ -70,42 +63,28 @@ module _ (b : List ℕ) (row : List ℤ) (lent : List ℕ) (p : Ready b row lent
     within : i < fieldCount b
     within = omega (arith, p .matched .each)
 
-    form-good : good φ ≡ true
-    form-good = walking-good b i (start + from) (w .walk) within
-
     numbers : (fieldNumber φ m ≡ 0) × (firstOf (editVerdicts (formsAt b (i + 1) (start + from + widthAt b i)) (drop (i + 1) row)) ≡ 0)
     numbers = first-zero _ _ (rw (verdicts-step b row i (start + from) within l) at (w .takes))
 
     pub written-fine : Fine b i (start + from) z
-    written-fine = rw v (record { within = field-within b row (p .matched) i (start + from) (w .walk) l; form = form-good; takes = numbers .0 })
+    written-fine = rw v (record { within = field-within b row (p .matched) i (start + from) (w .walk) l; takes = numbers .0 })
 
-    module _ (f : Field) (e : f ≡ roomOf (fieldOf φ z)) where
-      room-is : f ≡ roomOf (fieldOf φ m)
-      room-is = e ∙ rw v
+    -- the field stands within the record
+    pub written-within : from + widthAt b i ≤ length out
+    written-within = omega (arith, walking-within b i (start + from) (w .walk) within, plan .size, p .room, p .matched .each, w .kept)
 
-      count-is : f .count ≡ widthAt b i
-      count-is = made-count φ m form-good f room-is ∙ walking-length b i (start + from) (w .walk) within
-
-      -- the field is no longer than its room, and stands within the record
-      pub written-count : (f .count ≤ 64) × (from + f .count ≤ length out)
-      written-count = (
-        omega (arith, count-is, walking-narrow b i (start + from) (w .walk) within),
-        omega (arith, count-is, walking-within b i (start + from) (w .walk) within, plan .size, p .room, p .matched .each, w .kept),
-      )
-
-      pub written-step : (after : List ℕ) → after ≡ copied (take (f .count - 0) (drop 0 (f .chars))) from out → Written b row lent start (i + 1) (from + f .count) after
-      written-step after a =
-          let c : start + (from + f .count) ≡ start + from + widthAt b i = omega (arith, count-is) in
-          let n : from + f .count ≡ from + length (fieldOf φ m) = rw (made-count φ m form-good f room-is, edited-size φ m) in
-          let x : after ≡ sets out from (fieldOf φ m) =
-          rw (sub-zero, made-chars φ m form-good f room-is) at a ∙ copied-in (fieldOf φ m) out from (rw (← n) (written-count .1)) in
-          let rest = recordOf (formsAt b (i + 1) (start + from + widthAt b i)) (drop (i + 1) row) in
-          record {
-            walk = rw c (walking-step b i (start + from) (w .walk) within);
-            takes = rw c (numbers .1);
-            left = rw (c, x, n) (sym (sets-append (fieldOf φ m) rest out from) ∙ rw (← record-step b row i (start + from) within l) (w .left));
-            kept = rw x (length-sets out from (fieldOf φ m) ∙ w .kept);
-          }
+    pub written-step : (after : List ℕ) → after ≡ sets out from (fieldOf φ z) → Written b row lent start (i + 1) (from + widthAt b i) after
+    written-step after a =
+        let c : start + (from + widthAt b i) ≡ start + from + widthAt b i = omega arith in
+        let n : from + widthAt b i ≡ from + length (fieldOf φ m) = rw (edited-size φ m, walking-length b i (start + from) (w .walk) within) in
+        let x : after ≡ sets out from (fieldOf φ m) = rw v at a in
+        let rest = recordOf (formsAt b (i + 1) (start + from + widthAt b i)) (drop (i + 1) row) in
+        record {
+          walk = rw c (walking-step b i (start + from) (w .walk) within);
+          takes = rw c (numbers .1);
+          left = rw (c, x, n) (sym (sets-append (fieldOf φ m) rest out from) ∙ rw (← record-step b row i (start + from) within l) (w .left));
+          kept = rw x (length-sets out from (fieldOf φ m) ∙ w .kept);
+        }
 
   pub written-end : (i from : ℕ) (out : List ℕ) → Written b row lent start i from out → length row ≤ i
       → out ≡ recordOf (formsIn b) row ++ drop (length (recordOf (formsIn b) row)) lent

@@ -6,7 +6,6 @@ use Prim.Native.Nat.{ℕ, _+_, _*_, _<_, _≤_}
 use lib.IntN.{ℤ}
 use lib.ListN.{length}
 use Rattle.rules.specs.Numbers.{badField, firstOf}
-use Rattle.rules.specs.Good.{good}
 use Rattle.rules.specs.Layout.{recordLength}
 use Rattle.rules.specs.PlanBytes.{formsIn, isPlan}
 use Rattle.rules.specs.Answers.{editVerdicts, fieldNumber}
@@ -28,7 +27,6 @@ pub record Within (b : List ℕ) (i at : ℕ) : Type 0 where
 -- and the field takes this value
 pub record Fine (b : List ℕ) (i at : ℕ) (m : ℤ) : Type 0 where
   pub within : Within b i at
-  pub form : good (formAt b i at) ≡ true
   pub takes : fieldNumber (formAt b i at) m ≡ 0
 
 -- a plan, and a row with a value for each field

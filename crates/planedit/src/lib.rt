@@ -1,12 +1,13 @@
 // A row edited by a plan into a record. Every refusal is settled before the first byte is written, so that a refusal changes
-// nothing: one pass settles each value against its field, another writes the fields. The second settles each value again; the
-// signs and magnitudes of the first are not kept, since the proof would have to tie a room of them to the row.
+// nothing: one pass settles each value against its field, another writes the fields straight into the lent bytes.
 mod fields; // fields.rt: one field of a plan, and the value that goes into it
 
 use answer::refused;
-use fields::field_at;
-use fields::settle_at;
+use decimal::powers::POWERS;
+use fields::number_at;
+use fields::put_at;
 use plan::is_plan;
+use roles::table::character_table;
 use rules::Answer;
 ghost use mathlib.Core.Path.{_≡_};
 ghost use mathlib.Core.Bool.{true};
@@ -27,10 +28,10 @@ fn first_bad(plan: &[u8], row: &[i64]) -> Bad
     requires { ⌜ Matched (now plan) (now row) ⌝ }
     ensures { λ r. ⌜ r ≡ badOf (editVerdicts (formsIn (now (plan .entry))) (now (row .entry))) ⌝ }
 {
+    let powers = POWERS;
     let mut at = 3 * row.len() + 3;
     for i in 0..row.len() {
-        let settled = settle_at(plan, i, at, row[i]);
-        let number = settled.number;
+        let number = number_at(&powers, plan, i, at, row[i]);
         if number != 0 {
             return Bad {
                 number,
@@ -50,16 +51,14 @@ fn put_record(plan: &[u8], row: &[i64], out: &mut [u8])
     requires { ⌜ Ready (now plan) (now row) (now out) ⌝ }
     ensures { λ _. ⌜ now (out .exit) ≡ recordOf (formsIn (now (plan .entry))) (now (row .entry)) ++ drop (length (recordOf (formsIn (now (plan .entry))) (now (row .entry)))) (now (out .entry)) ⌝ }
 {
+    let table = character_table();
     let count = row.len();
     // A field stands in the record where its roles stand behind the plan's headers and counts.
     let start = 3 * count + 3;
     let mut from: usize = 0;
     for i in 0..count {
-        let field = field_at(plan, i, start + from, row[i]);
-        let chars = field.chars;
-        let n = field.count;
-        copying::put(&chars[0..n], out, from);
-        from += n;
+        put_at(&table, plan, i, start + from, row[i], out, from);
+        from += plan[1 + 3 * i] as usize;
     }
 }
 

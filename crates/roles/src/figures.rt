@@ -1,10 +1,10 @@
-// The characters of digits (RULES 3.10). The three lists stand one behind the other in one table, ten characters each: what a digit prints is taken
-// from it, and the place of a character in it tells its list and its digit.
+// The characters of digits (RULES 3.10): the list from which a digit prints, and what a character tells, the list in which it stands and its digit. The
+// lists themselves are in table.rt.
 use super::marks::chosen;
 ghost use mathlib.Core.Path.{_≡_};
 ghost use Prim.Native.Nat.{_<_};
 ghost use Rattle.rules.specs.Text.{isDecimal};
-ghost use Rattle.rules.specs.Edit.{digitChar, listOf};
+ghost use Rattle.rules.specs.Edit.{listOf};
 ghost use Rattle.rules.specs.Candidate.{digitIn, listIn};
 
 // The list from which a digit prints: 0 the digit itself, 1 with a plus punched over it, 2 with a minus.
@@ -17,18 +17,6 @@ pub fn list_of(role: u8, negative: bool) -> u8
         17 => chosen(negative, 2, 0),
         _ => 0,
     }
-}
-
-// What the digit d prints. Past the lists there is 0.
-pub fn digit_char(role: u8, negative: bool, d: u8) -> u8
-    ensures { λ r. ⌜ r ≡ digitChar role negative d ⌝ }
-{
-    let figures = b"0123456789{ABCDEFGHI}JKLMNOPQR";
-    let at = 10 * list_of(role, negative) as usize + d as usize;
-    if at < figures.len() {
-        return figures[at];
-    }
-    0
 }
 
 // The character is a digit itself.

@@ -2,6 +2,7 @@
 // first whether it is a role.
 pub mod figures; // figures.rt: the characters of digits
 pub mod marks; // marks.rt: the other characters
+pub mod table; // table.rt: all characters that positions print, as a table to be lent
 
 ghost use mathlib.Core.Path.{_≡_};
 ghost use Prim.Native.Nat.{_≤_, _<_, min};

@@ -6,7 +6,7 @@ ghost use lib.ListN.{drop};
 ghost use Rattle.rules.specs.Text.{isMark};
 ghost use Rattle.rules.specs.Edit.{mark, suppressed};
 
-pub(crate) fn chosen(test: bool, yes: u8, no: u8) -> u8
+pub fn chosen(test: bool, yes: u8, no: u8) -> u8
     ensures { λ r. ⌜ r ≡ cond test yes no ⌝ }
 {
     if test {

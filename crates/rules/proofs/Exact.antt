@@ -54,7 +54,7 @@ shown-small rs f = let l = value-lt (shownIn rs f) (shown-digits rs f) in rw (sh
 
 -- At the picture's own scale the aligned magnitude is the magnitude, and what VALUE and SIZE ask is that it fits.
 module _ (φ : Form) where
-  own-aligned : (m : ℤ) → aligned φ m (places φ) ≡ natAbs m
+  pub own-aligned : (m : ℤ) → aligned φ m (places φ) ≡ natAbs m
   unfolding aligned
   own-aligned m = mul-div-cancel (natAbs m) (ten-pos (places φ))
 
@@ -62,22 +62,22 @@ module _ (φ : Form) where
   unfolding whole places
   digit-sum = count-split isDigit (φ .vee) (φ .roles)
 
-  own-small : (t : ℕ) → t / 10 ^ places φ < 10 ^ whole φ → t < 10 ^ digitCount φ
+  pub own-small : (t : ℕ) → t / 10 ^ places φ < 10 ^ whole φ → t < 10 ^ digitCount φ
   own-small t h = rw (← digit-sum, pow-add 10 (whole φ) (places φ)) (div-lt-iff-lt-mul (ten-pos (places φ)) .0 h)
 
-  own-whole : (t : ℕ) → t < 10 ^ digitCount φ → t / 10 ^ places φ < 10 ^ whole φ
+  pub own-whole : (t : ℕ) → t < 10 ^ digitCount φ → t / 10 ^ places φ < 10 ^ whole φ
   own-whole t h = div-lt-iff-lt-mul (ten-pos (places φ)) .1 (rw (← pow-add 10 (whole φ) (places φ), digit-sum) h)
 
-  own-minus : (m : ℤ) → isMinus φ m (places φ) ≡ isNegative m
+  pub own-minus : (m : ℤ) → isMinus φ m (places φ) ≡ isNegative m
   unfolding isMinus
   own-minus (pos n) = refl
   own-minus (negsuc n) = rw (own-aligned (negsuc n), ne-eqb (suc n) 0 (λ q. omega arith))
 
-  own-edited : (m : ℤ) → edited φ m (places φ) ≡ field φ (isNegative m) (natAbs m)
+  pub own-edited : (m : ℤ) → edited φ m (places φ) ≡ field φ (isNegative m) (natAbs m)
   unfolding edited
   own-edited m = rw (own-minus m, own-aligned m)
 
-  above : (m : ℤ) → isNegative m ≡ true → 0 < natAbs m
+  pub above : (m : ℤ) → isNegative m ≡ true → 0 < natAbs m
   above (pos n) e = absurd (true≢false (sym e))
   above (negsuc n) e = omega arith
 

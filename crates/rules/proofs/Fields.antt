@@ -1,5 +1,4 @@
--- The field of a sign and a magnitude: its length, the character at each place, and that the digits which it shows are the magnitude's. Assumes
--- nothing.
+-- The field of a sign and a magnitude: its length, and that the digits which it shows are the magnitude's. Assumes nothing.
 use mathlib.Core.Path.{_≡_, refl, sym, _∙_, ap}
 use mathlib.Core.Bool.{Bool, true, false}
 use mathlib.Core.List.{List, [], _∷_}
@@ -15,10 +14,9 @@ use Rattle.rules.specs.Roles.{isDigit}
 use Rattle.rules.specs.Form.{Form, roleAt, size}
 use Rattle.rules.specs.Shape.{digitCount}
 use Rattle.rules.specs.Digits.{digitsOf, valueOf}
-use Rattle.rules.specs.Edit.{allSuppressible, cell, cellAt, digitAt, field, isBlank, suppressed}
+use Rattle.rules.specs.Edit.{allSuppressible, cellAt, digitAt, field, isBlank, suppressed}
 use Rattle.rules.specs.Candidate.{digitIn, shown, shownIn}
-use Rattle.rules.specs.Cells.{characterAt}
-use Rattle.rules.proofs.Search.{getD-upTo, length-upTo, upTo-same}
+use Rattle.rules.proofs.Search.{getD-upTo, length-upTo}
 use Rattle.rules.proofs.Digits.{digits-digits, digits-length, digits-zero, ten-pos, value-digits}
 use Rattle.rules.proofs.Characters.{hidden-shows, none-shows}
 use Rattle.rules.proofs.Logic.{both, side}
@@ -71,20 +69,12 @@ module _ (φ : Form) where
       (λ (b : isBlank φ t ≡ false). rw (field-cells neg t b, getD-upTo _ _ k l) (cell-shows φ _ (digits-digits _ t) neg k e))
       (side (isBlank φ t)))
 
-  -- the field place by place
-  pub field-is : (neg : Bool) (t : ℕ) → field φ neg t ≡ upTo (size φ) (characterAt φ (digitsOf (digitCount φ) t) (isBlank φ t) neg)
-  unfolding characterAt cellAt cell
-  field-is neg t =
-      ⊎-elim
-      (λ (b : isBlank φ t ≡ true). field-blank neg t b ∙ upTo-same _ _ (size φ) (λ k l. rw b))
-      (λ (b : isBlank φ t ≡ false). field-cells neg t b ∙ upTo-same _ _ (size φ) (λ k l. rw b))
-      (side (isBlank φ t))
-
-  pub field-at : (neg : Bool) (t k : ℕ) → k < size φ → getD (field φ neg t) k 0 ≡ characterAt φ (digitsOf (digitCount φ) t) (isBlank φ t) neg k
-  field-at neg t k l = rw (field-is neg t) (getD-upTo _ _ k l)
-
   pub length-field : (neg : Bool) (t : ℕ) → length (field φ neg t) ≡ size φ
-  length-field neg t = rw (field-is neg t) (length-upTo _ _)
+  length-field neg t =
+      ⊎-elim
+      (λ (b : isBlank φ t ≡ true). rw (field-blank neg t b) (length-upTo _ _))
+      (λ (b : isBlank φ t ≡ false). rw (field-cells neg t b) (length-upTo _ _))
+      (side (isBlank φ t))
 
   -- a magnitude above 0 has a digit above 0 at some position
   pub all-zero : (t : ℕ) → t < 10 ^ digitCount φ → ((k : ℕ) → k < size φ → isDigit (roleAt φ k) ≡ true → digitAt φ (digitsOf (digitCount φ) t) k ≡ 0) → t ≡ 0

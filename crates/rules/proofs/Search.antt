@@ -79,16 +79,11 @@ module _ (p : ℕ → Bool) where
       let ih = last-found n k l e in
       rw q (ih .0, omega arith, ih .2))
 
-  -- the loop that looks for it from the end
-  pub last-here : (n : ℕ) → 0 < n → p (n - 1) ≡ true → last p n ≡ n - 1
+  -- where it isn't 0 there is one
+  pub last-holds : (n : ℕ) → 0 < last p n → p (last p n) ≡ true
   unfolding last
-  last-here zero h e = absurd (not-suc-le-zero h)
-  last-here (suc n) h e = let q : suc n - 1 ≡ n = omega arith in rw (q, rw q at e)
-
-  pub last-less : (n : ℕ) → 0 < n → p (n - 1) ≡ false → last p n ≡ last p (n - 1)
-  unfolding last
-  last-less zero h e = absurd (not-suc-le-zero h)
-  last-less (suc n) h e = let q : suc n - 1 ≡ n = omega arith in rw (q, rw q at e)
+  last-holds zero h = absurd (not-suc-le-zero h)
+  last-holds (suc n) h = by-test (p n) (λ q. rw q q) (λ q. let l : 0 < last p n = rw q at h in rw q (last-holds n l))
 
 pub each-at : (p : ℕ → Bool) (n k : ℕ) → each p n ≡ true → k < n → p k ≡ true
 unfolding each
@@ -121,8 +116,3 @@ pub upTo-same : (f g : ℕ → ℕ) (n : ℕ) → ((k : ℕ) → k < n → f k �
 unfolding upTo
 upTo-same f g zero h = refl
 upTo-same f g (suc n) h = rw (upTo-same f g n (λ k l. h k (omega arith)), h n (omega arith))
-
-pub first-same : (p q : ℕ → Bool) (n : ℕ) → ((k : ℕ) → p k ≡ q k) → first p n ≡ first q n
-unfolding first
-first-same p q zero h = refl
-first-same p q (suc n) h = rw (h zero, first-same (λ k. p (suc k)) (λ k. q (suc k)) n (λ k. h (suc k)))

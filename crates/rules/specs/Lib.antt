@@ -14,7 +14,6 @@ pub mod Collector
 pub mod Lister
 pub mod Sheet
 pub mod Lines
-pub mod Cells
 pub mod Good
 pub mod PlanBytes
 pub mod Candidate

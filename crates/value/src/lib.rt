@@ -1,4 +1,6 @@
 // One value against one form: whether it is in range and fits, and the sign and the aligned magnitude that its field shows.
+pub mod own; // own.rt: a value at the form's own scale
+
 use decimal::align::align;
 use decimal::sign::split;
 use field::measure;

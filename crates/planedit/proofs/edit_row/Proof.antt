@@ -13,25 +13,16 @@ cast-count : tie.Need-cast-count
 cast-count c = omega (arith, c .shared-slice-known2 .given 0)
 
 returns : tie.Need-returns
-returns c =
-    let a = c .before .before .before .before .before in
-    rw (c .refused .ensures) (row-other _ (a .pre) (a .args .row .now) (a .args .out .now) (c .before .if1 .taken))
+returns c = rw (c .refused .ensures) (search (row-other, needs))
 
 returns-2 : tie.Need-returns-2
-returns-2 c =
-    let d = c .before .before in
-    let a = d .before .before .before .before .before in
-    rw (c .refused2 .ensures) (row-bad _ (a .pre) (a .args .row .now) (a .args .out .now) (d .before .if1 .left) _ (d .first-bad .ensures) (c .before .if2 .taken))
+returns-2 c = rw (c .refused2 .ensures) (search (row-bad, needs))
 
 sub-length : tie.Need-sub-length
 sub-length c = let p = plan-parts _ (c .before .before .before .before .before .before .pre) in omega arith
 
 returns-3 : tie.Need-returns-3
-returns-3 c =
-    let d = c .before .before .before in
-    let a = d .before .before .before .before .before in
-    rw (c .refused3 .ensures)
-    (row-room _ (a .pre) (a .args .row .now) (a .args .out .now) (d .before .if1 .left) _ (d .first-bad .ensures) (c .before .before .if2 .left) (c .before .if3 .taken))
+returns-3 c = rw (c .refused3 .ensures) (search (row-room, needs))
 
 put-record-requires : tie.Need-put-record-requires
 put-record-requires c κs =
@@ -40,12 +31,7 @@ put-record-requires c κs =
     row-ready _ (a .pre) (a .args .row .now) (a .args .out .now) (d .before .if1 .left) _ (d .first-bad .ensures) (c .before .before .if2 .left) (c .before .if3 .left)
 
 returns-4 : tie.Need-returns-4
-returns-4 c =
-    let e = c .before .before .before .before .before in
-    let d = e .before .before in
-    let a = d .before .before .before .before .before in
-    rw (c .done .ensures)
-    (row-done _ (a .pre) (a .args .row .now) (a .args .out .now) (d .before .if1 .left) _ (d .first-bad .ensures) (e .before .if2 .left) (e .if3 .left) _ (c .before .before .before .put-record .ensures))
+returns-4 c = rw (c .done .ensures) (search (row-done, needs))
 
 pub edit-row-spec : {M : Type 1} → statement M
 edit-row-spec =

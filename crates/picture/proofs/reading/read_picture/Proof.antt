@@ -9,18 +9,18 @@ use Rattle.picture.proofs.reading.read_picture.Tie as tie
 
 part-read-form-end : tie.Need-part-read-form-end
 part-read-form-end c =
-    let l : length (c .before .before .form-of .result .roles) ≡ 64 = search needs in
-    let h = size-le _ _ (c .before .before .form-of .ensures) l in
+    let l : length (c .before .before .before .form-of .result .roles) ≡ 64 = search needs in
+    let h = size-le _ _ (c .before .before .before .form-of .ensures) l in
     search needs
 
 read-form-requires : tie.Need-read-form-requires
 read-form-requires c κs =
-    let a = c .before .before .before in
+    let a = c .before .before .before .before in
     rw (form-parts _ _ (a .form-of .ensures)) (narrow _ (a .before .before .pre))
 
 returns : tie.Need-returns
 returns c =
-    let a = c .before .before .before .before in
+    let a = c .before .before .before .before .before in
     c .read-form .ensures ∙ rw (form-parts _ _ (a .form-of .ensures))
 
 pub read-picture-spec : {M : Type 1} → statement M

@@ -9,12 +9,12 @@ use Rattle.picture.proofs.verdict.judge_form.Tie as tie
 
 part-judge-end : tie.Need-part-judge-end
 part-judge-end c =
-    let l : length (c .before .before .form-of .result .roles) ≡ 64 = search needs in
-    let h = size-le _ _ (c .before .before .form-of .ensures) l in
+    let l : length (c .before .before .before .form-of .result .roles) ≡ 64 = search needs in
+    let h = size-le _ _ (c .before .before .before .form-of .ensures) l in
     search needs
 
 returns : tie.Need-returns
-returns c = c .judge .ensures ∙ ap judgedOf (form-parts _ _ (c .before .before .before .before .form-of .ensures))
+returns c = c .judge .ensures ∙ ap judgedOf (form-parts _ _ (c .before .before .before .before .before .form-of .ensures))
 
 pub judge-form-spec : {M : Type 1} → statement M
 judge-form-spec = tie.close (tie.spec (λ c κs. search needs) (λ c. search needs) (λ c. search needs) part-judge-end (λ c κs. search needs) returns)
