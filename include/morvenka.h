@@ -26,6 +26,7 @@
  *   there. Every other run is memory of that length.
  *   The library keeps nothing between calls and allocates nothing. It may be called from several threads at once, as long as none
  *   of them writes to memory that another has passed to a call still running.
+ *   A call takes less than 2,048 bytes of stack on x86-64 and on 64-bit Arm, with what it calls of the C library bound.
  *
  * ANSWERS
  *   Each call answers one number: number + 256 * field + 65,536 * length. The three functions below take it apart.
@@ -55,10 +56,10 @@ extern "C" {
 #endif
 
 /* The version of this header and its library, as text and as numbers; docs/COLLECTOR.md says what changes which number. */
-#define MORVENKA_VERSION "2.0.0"
+#define MORVENKA_VERSION "2.0.1"
 #define MORVENKA_VERSION_MAJOR 2
 #define MORVENKA_VERSION_MINOR 0
-#define MORVENKA_VERSION_PATCH 0
+#define MORVENKA_VERSION_PATCH 1
 
 /* The numbers that come back. */
 enum morvenka_numbers {
