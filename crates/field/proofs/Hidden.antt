@@ -19,17 +19,17 @@ use Rattle.rules.specs.Edit.{digitAt, driftsTo, inStretch, opening, start}
 use Rattle.rules.proofs.Logic.{both, by-test, lt-or-le, neither}
 use Rattle.rules.proofs.Search.{first-holds, first-le, first-least, first-mono, first-none, last-found}
 use Rattle.rules.proofs.Stretch.{counts, drifts-in, drifts-last, early, start-below, start-simple, stretch-from, stretch-in, stretch-to}
-use Rattle.field.specs.Results.{isHidden, leftAt, reach, spot}
-use Rattle.field.specs.Steps.{Between, leadTo, nineIn}
+use Rattle.field.specs.Results.{isHidden, leftAt, nineIn, reach, spot}
+use Rattle.field.specs.Steps.{Between, leadTo}
 use Rattle.field.proofs.Left.{left-due, left-none, left-zeros}
 
 module _ (φ : Form) where
   pub reach-le : reach φ ≤ min (φ .vee) (size φ)
-  unfolding reach
+  unfolding reach nineIn
   reach-le = first-le (λ k. isNine (roleAt φ k)) (min (φ .vee) (size φ))
 
   pub reach-nine : (k : ℕ) → k < reach φ → isNine (roleAt φ k) ≡ false
-  unfolding reach
+  unfolding reach nineIn
   reach-nine k h = first-none (λ j. isNine (roleAt φ j)) (min (φ .vee) (size φ)) k h
 
   nine-counts : (ds : List ℕ) (k : ℕ) → isNine (roleAt φ k) ≡ true → counts φ ds k ≡ true
@@ -38,7 +38,7 @@ module _ (φ : Form) where
 
   -- no stretch goes past it
   reach-start : (ds : List ℕ) → start φ ds ≤ reach φ
-  unfolding reach counts
+  unfolding reach nineIn counts
   reach-start ds =
       let c = first (λ j. counts φ ds j) (size φ) in
       let s : start φ ds ≡ min (φ .vee) c = start-simple φ ds in
@@ -82,7 +82,7 @@ module _ (rs : List ℕ) (v kind : ℕ) where
   n = min v (length rs)
 
   pub reach-is : nineIn rs n ≡ reach φ
-  unfolding nineIn reach
+  unfolding reach
   reach-is = refl
 
   pub lead-reach : leadTo rs n ≤ nineIn rs n

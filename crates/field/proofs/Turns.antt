@@ -18,8 +18,8 @@ use Rattle.rules.specs.Edit.{fill}
 use Rattle.rules.proofs.Logic.{both, by-test, lt-or-le, neither}
 use Rattle.rules.proofs.Search.{first-holds, first-none, last-found, last-holds, upTo-same}
 use Rattle.roles.specs.Table.{figureBy, markBy}
-use Rattle.field.specs.Results.{isHidden, leftAt, printedAt, printedBy, reach, shownAt, spot}
-use Rattle.field.specs.Steps.{Between, leadTo, nineIn, stepOf}
+use Rattle.field.specs.Results.{isHidden, leftAt, nineIn, printedAt, printedBy, reach, shownAt, spot}
+use Rattle.field.specs.Steps.{Between, leadTo, stepOf}
 use Rattle.field.specs.declared.step.Step.{Step}
 use Rattle.field.proofs.Bytes.{sets-less}
 use Rattle.field.proofs.Field.{punched-digit}

@@ -31,9 +31,13 @@ leftAt rs t k = t / 10 ^ count isDigit (drop k rs)
 unfoldable pub printedAt : List ℕ → List ℕ → Bool → ℕ → ℕ → ℕ
 printedAt table rs negative t k = printedBy table (getD rs k 0) negative (leftAt rs t (suc k) % 10)
 
+-- the first nine of the first n positions; n where there is none
+unfoldable pub nineIn : List ℕ → ℕ → ℕ
+nineIn rs n = first (λ k. isNine (getD rs k 0)) n
+
 -- no position is hidden from V or the first nine on
 unfoldable pub reach : Form → ℕ
-reach φ = first (λ k. isNine (roleAt φ k)) (min (φ .vee) (size φ))
+reach φ = nineIn (φ .roles) (min (φ .vee) (size φ))
 
 -- before that one is hidden, from the opening on, as long as nothing is left
 unfoldable pub isHidden : Form → ℕ → ℕ → Bool

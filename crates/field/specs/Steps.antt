@@ -17,12 +17,9 @@ use Rattle.field.specs.declared.step.Step.{Step}
 unfoldable pub surveyOf : List ℕ → ℕ → Survey
 surveyOf rs v = record { whole = count isDigit (take v rs); places = count isDigit (drop v rs); signed = any isSign rs }
 
--- the first digit or drifting symbol of the first n positions, and the first nine; n where there is none
+-- the first digit or drifting symbol of the first n positions; n where there is none
 unfoldable pub leadTo : List ℕ → ℕ → ℕ
 leadTo rs n = first (λ k. opens (getD rs k 0) || isNine (getD rs k 0)) n
-
-unfoldable pub nineIn : List ℕ → ℕ → ℕ
-nineIn rs n = first (λ k. isNine (getD rs k 0)) n
 
 -- positions can be hidden from `lead` up to `to`
 pub record Between (φ : Form) (lead to : ℕ) : Type 0 where

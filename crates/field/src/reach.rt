@@ -5,7 +5,8 @@ use roles::is_nine;
 ghost use mathlib.Core.Path.{_≡_};
 ghost use Prim.Native.Nat.{_≤_};
 ghost use lib.ListN.{length};
-ghost use Rattle.field.specs.Steps.{leadTo, nineIn};
+ghost use Rattle.field.specs.Results.{nineIn};
+ghost use Rattle.field.specs.Steps.{leadTo};
 
 // The positions before the first digit or drifting symbol, of the first `before`.
 pub(crate) fn lead_of(roles: &[u8], before: usize) -> usize

@@ -20,8 +20,8 @@ ghost use Rattle.rules.specs.Search.{upTo};
 ghost use Rattle.rules.specs.Form.{formed};
 ghost use Rattle.rules.specs.Edit.{suppressed};
 ghost use Rattle.roles.specs.Table.{markBy};
-ghost use Rattle.field.specs.Results.{leftAt, printedAt, shownAt};
-ghost use Rattle.field.specs.Steps.{Between, nineIn};
+ghost use Rattle.field.specs.Results.{leftAt, nineIn, printedAt, shownAt};
+ghost use Rattle.field.specs.Steps.{Between};
 
 // The positions from the end down to `to`, which all print. With the characters of those before `to` set too, the lent bytes would hold the whole field. What is left of the
 // magnitude comes back.

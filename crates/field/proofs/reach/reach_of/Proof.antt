@@ -6,7 +6,7 @@ use Rattle.rules.proofs.Search.{first-here, first-le, first-more}
 use borrow.Author.Needs.{needs}
 use Prim.Native.Nat.{_-_, _≤_}
 use native.Mathlib.Omega.{arith}
-use Rattle.field.specs.Steps.{nineIn}
+use Rattle.field.specs.Results.{nineIn}
 use Rattle.field.proofs.reach.reach_of.Statement.{statement}
 use Rattle.field.proofs.reach.reach_of.Tie as tie
 

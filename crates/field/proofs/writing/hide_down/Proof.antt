@@ -7,9 +7,9 @@ use lib.ListN.{length, getD, length-set}
 use Rattle.rules.specs.Roles.{isB, isNine}
 use Rattle.rules.specs.Form.{formed}
 use Rattle.rules.specs.Edit.{fill, suppressed}
-use Rattle.field.specs.Results.{leftAt}
+use Rattle.field.specs.Results.{leftAt, nineIn}
 use Rattle.rules.proofs.Search.{first-none}
-use Rattle.field.specs.Steps.{Between, nineIn}
+use Rattle.field.specs.Steps.{Between}
 use Rattle.field.proofs.Turns.{Hiding, hide-start, hide-turn}
 use Rattle.field.proofs.writing.hide_down.Statement.{statement}
 use Rattle.field.proofs.writing.hide_down.Tie as tie

@@ -2,7 +2,8 @@
 use mathlib.Core.Path.{_≡_, _∙_}
 use Prim.Native.Nat.{min}
 use lib.ListN.{length}
-use Rattle.field.specs.Steps.{leadTo, nineIn}
+use Rattle.field.specs.Results.{nineIn}
+use Rattle.field.specs.Steps.{leadTo}
 use Rattle.field.proofs.Hidden.{lead-between, lead-reach}
 use Rattle.field.proofs.Turns.{all-parts, behind, nine-self}
 use borrow.Author.Needs.{needs}
