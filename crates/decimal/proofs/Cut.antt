@@ -8,6 +8,7 @@ use lib.Pow.{pow-add}
 use lib.Dec.{leb, ltb}
 use borrow.Author.Tests.{ltb-true, lt-ltb, le-ltb, le-leb, lt-leb}
 use Rattle.rules.specs.Shape.{mostDigits}
+use Rattle.rules.specs.Edit.{mostScale}
 use Rattle.rules.proofs.Digits.{ten-pos, ten-le}
 use Rattle.rules.proofs.Logic.{by-test}
 use Rattle.decimal.specs.declared.align.Aligned.{Aligned}
@@ -39,20 +40,20 @@ module _ (m q i f : ℕ) where
   unfolding alignedOf
   aligned-large h = rw (le-ltb _ _ h)
 
-  pub aligned-scale : mostDigits < q → alignedOf m q i f ≡ record { fits = false; t = 0 }
+  pub aligned-scale : mostScale < q → alignedOf m q i f ≡ record { fits = false; t = 0 }
   unfolding alignedOf
   aligned-scale h = rw (lt-leb _ _ h, and-false (ltb m (10 ^ mostDigits)))
 
   pub aligned-room : mostDigits < i + f → alignedOf m q i f ≡ record { fits = false; t = 0 }
   unfolding alignedOf
-  aligned-room h = rw (lt-leb _ _ h, and-false (leb q mostDigits), and-false (ltb m (10 ^ mostDigits)))
+  aligned-room h = rw (lt-leb _ _ h, and-false (leb q mostScale), and-false (ltb m (10 ^ mostDigits)))
 
   pub aligned-over : 10 ^ i ≤ m / 10 ^ q → alignedOf m q i f ≡ record { fits = false; t = 0 }
   unfolding alignedOf
-  aligned-over h = rw (le-ltb _ _ h, and-false (leb (i + f) mostDigits), and-false (leb q mostDigits), and-false (ltb m (10 ^ mostDigits)))
+  aligned-over h = rw (le-ltb _ _ h, and-false (leb (i + f) mostDigits), and-false (leb q mostScale), and-false (ltb m (10 ^ mostDigits)))
 
   -- where the other three hold, the size decides
-  module _ (small : m < 10 ^ mostDigits) (scale : q ≤ mostDigits) (room : i + f ≤ mostDigits) where
+  module _ (small : m < 10 ^ mostDigits) (scale : q ≤ mostScale) (room : i + f ≤ mostDigits) where
     pub aligned-fits : alignedOf m q i f .fits ≡ ltb (m / 10 ^ q) (10 ^ i)
     unfolding alignedOf
     aligned-fits =

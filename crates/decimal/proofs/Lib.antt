@@ -1,4 +1,3 @@
-pub mod Table
 pub mod Signs
 pub mod Parts
 pub mod Cut

@@ -6,7 +6,7 @@ use lib.IntN.{ℤ, natAbs}
 use lib.Dec.{leb, ltb}
 use borrow.Author.Tests.{ltb-true, lt-ltb, le-ltb}
 use Rattle.rules.specs.Shape.{mostDigits}
-use Rattle.rules.specs.Edit.{inRange, isNegative}
+use Rattle.rules.specs.Edit.{mostScale, inRange, isNegative}
 use Rattle.rules.proofs.Logic.{by-test}
 use Rattle.decimal.specs.declared.sign.Parts.{Parts}
 use Rattle.decimal.specs.Sign.{partsOf}
@@ -25,7 +25,7 @@ module _ (z : ℤ) where
   unfolding partsOf
   parts-fits = by-test (ltb (natAbs z) (10 ^ mostDigits)) (λ e. rw e) (λ e. rw e)
 
-  pub parts-range : (q : ℕ) → inRange z q ≡ (partsOf z .fits && leb q mostDigits)
+  pub parts-range : (q : ℕ) → inRange z q ≡ (partsOf z .fits && leb q mostScale)
   unfolding inRange
   parts-range q = rw parts-fits
 

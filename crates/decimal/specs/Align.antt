@@ -4,10 +4,11 @@ use mathlib.Core.Bool.{true, false, cond, _&&_}
 use Prim.Native.Nat.{ℕ, _+_, _*_, _/_, _^_}
 use lib.Dec.{leb, ltb}
 use Rattle.rules.specs.Shape.{mostDigits}
+use Rattle.rules.specs.Edit.{mostScale}
 use Rattle.decimal.specs.declared.align.Aligned.{Aligned}
 
 unfoldable pub alignedOf : ℕ → ℕ → ℕ → ℕ → Aligned
 alignedOf m q i f =
-    cond (ltb m (10 ^ mostDigits) && (leb q mostDigits && (leb (i + f) mostDigits && ltb (m / 10 ^ q) (10 ^ i))))
+    cond (ltb m (10 ^ mostDigits) && (leb q mostScale && (leb (i + f) mostDigits && ltb (m / 10 ^ q) (10 ^ i))))
     (record { fits = true; t = m * 10 ^ f / 10 ^ q })
     (record { fits = false; t = 0 })

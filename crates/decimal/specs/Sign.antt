@@ -7,7 +7,7 @@ use Rattle.rules.specs.Shape.{mostDigits}
 use Rattle.rules.specs.Edit.{isNegative}
 use Rattle.decimal.specs.declared.sign.Parts.{Parts}
 
--- RULES 3.1: M has 15 digits at most
+-- RULES 3.1: M is in range
 unfoldable pub partsOf : ℤ → Parts
 partsOf m =
     cond (ltb (natAbs m) (10 ^ mostDigits))

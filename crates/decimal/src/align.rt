@@ -1,5 +1,4 @@
 // A magnitude moved from one scale to another, cut toward zero, with no number over 64 bits on the way.
-use super::powers::POWERS;
 use rules::Picture;
 ghost use mathlib.Core.Path.{_≡_};
 ghost use Rattle.decimal.specs.Align.{alignedOf};
@@ -10,7 +9,7 @@ pub struct Aligned {
     pub t: u64,
 }
 
-// Size is settled before any product is taken: what passes has whole + places digits, 15 at most.
+// Size is settled before any product is taken: what passes has whole + places digits, so that the product is below the limit too.
 pub fn align(magnitude: u64, q: usize, whole: usize, places: usize) -> Aligned
     ensures { λ r. ⌜ r ≡ alignedOf magnitude q whole places ⌝ }
 {
@@ -27,7 +26,7 @@ pub fn align(magnitude: u64, q: usize, whole: usize, places: usize) -> Aligned
     if Picture::MOST_DIGITS - whole < places {
         return refused;
     }
-    let powers = POWERS;
+    let powers = Picture::POWERS;
     if powers[whole] <= magnitude / powers[q] {
         return refused;
     }

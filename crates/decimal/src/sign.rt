@@ -4,7 +4,7 @@ ghost use mathlib.Core.Path.{_≡_};
 ghost use lib.IntN.{natAbs};
 ghost use Rattle.decimal.specs.Sign.{partsOf};
 
-// Where `fits` is false the number is 10^15 or more from zero, and the rest is empty.
+// Where `fits` is false the number is as far from zero as the limit or further, and the rest is empty.
 pub struct Parts {
     pub fits: bool,
     pub negative: bool,

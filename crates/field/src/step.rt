@@ -1,11 +1,11 @@
 // What one position prints (RULES 3.10 to 3.12) by the last digit of what is left of the magnitude, and what is then left of it for those before: a digit's position takes
 // one digit off, by the table's ten.
-use decimal::powers::POWERS;
 use roles::is_bare;
 use roles::is_punched;
 use roles::table::Characters;
 use roles::table::figure_by;
 use roles::table::mark_by;
+use rules::Picture;
 ghost use mathlib.Core.Path.{_≡_};
 ghost use mathlib.Core.Bool.{false};
 ghost use Prim.Native.Nat.{_+_, _/_, _%_, _<_};
@@ -26,7 +26,7 @@ struct Tens {
 fn apart(t: u64) -> Tens
     ensures { λ r. ⌜ (r .digit ≡ t % 10) × (r .rest ≡ t / 10) × (r .digit < 10) ⌝ }
 {
-    let powers = POWERS;
+    let powers = Picture::POWERS;
     let ten = powers[1];
     Tens {
         digit: (t % ten) as u8,

@@ -71,8 +71,8 @@ fn is_plus(roles: &[u8], vee: usize, kind: u8, field: &[u8], sides: Said) -> boo
     sides.plus
 }
 
-// The value with the sign that the field tells. Plus comes first, so that a field that tells none has it. What 15 digits are worth
-// fits the signed number.
+// The value with the sign that the field tells. Plus comes first, so that a field that tells none has it. What the digits of a
+// picture are worth fits the signed number.
 fn settled(roles: &[u8], vee: usize, kind: u8, field: &[u8], sides: Said) -> Reading
     requires { ⌜ Asked (formed (now roles) vee kind) (now field) × (sides ≡ sidesOf (formed (now roles) vee kind) (now field)) ⌝ }
     ensures { λ r. ⌜ r ≡ readingOf (readOf (formed (now (roles .entry)) vee kind) (now (field .entry))) ⌝ }

@@ -11,7 +11,7 @@ use Rattle.rules.specs.declared.Answer.{Answer}
 use Rattle.rules.specs.Numbers.{VALUE, SIZE, ROOM, when, unless, firstOf}
 use Rattle.rules.specs.Form.{Form, size, meaning}
 use Rattle.rules.specs.Shape.{mostDigits, verdict}
-use Rattle.rules.specs.Edit.{inRange, tooBig, aligned, isMinus, edited}
+use Rattle.rules.specs.Edit.{mostScale, inRange, tooBig, aligned, isMinus, edited}
 use Rattle.rules.specs.Answers.{editNumber, editAnswer, editMemory}
 use Rattle.rules.proofs.Firsts.{first-here, first-next, first-pass, first-stop, refuses, lent-kept}
 use Rattle.rules.proofs.Fields.{length-field}
@@ -103,9 +103,9 @@ module _ (t : List ℕ) (m : ℤ) (q : ℕ) (out : List ℕ) (n : ℕ) (e : n �
     number-behind = first-next (verdict t) _ (sym e ∙ z)
 
     -- the scale is out of range
-    pub scale-refused : mostDigits < q → (record { number = 6; field = 0; length = 0; value = pos 0 } ≡ editAnswer t m q out) × (out ≡ editMemory t m q out)
+    pub scale-refused : mostScale < q → (record { number = 6; field = 0; length = 0; value = pos 0 } ≡ editAnswer t m q out) × (out ≡ editMemory t m q out)
     unfolding editAnswer editMemory formNumber inRange firstOf
-    scale-refused l = rw (number-behind, lt-leb q mostDigits l, and-false (ltb (natAbs m) (10 ^ mostDigits))) (refl, refl)
+    scale-refused l = rw (number-behind, lt-leb q mostScale l, and-false (ltb (natAbs m) (10 ^ mostDigits))) (refl, refl)
 
     -- all else is the form's
     pub by-form : (φ : Form) → φ ≡ meaning t → (r : Answer) (after : List ℕ) → r ≡ formAnswer φ m q out → after ≡ formMemory φ m q out

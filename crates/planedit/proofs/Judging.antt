@@ -12,7 +12,7 @@ use Rattle.rules.specs.Numbers.{badField, firstOf, later}
 use Rattle.rules.specs.PlanBytes.{formsIn}
 use Rattle.rules.specs.Answers.{editVerdicts, fieldNumber}
 use Rattle.rules.proofs.PlanWalk.{PlanParts, fieldCount, formAt, formsAt, plan-parts, walk-end, walk-start, walk-step, widthAt}
-use Rattle.decimal.proofs.Table.{powers}
+use Rattle.rules.specs.Powers.{powers}
 use Rattle.value.specs.Settling.{ownNumber}
 use Rattle.plan.proofs.Parts.{Walking, walking-good, walking-start, walking-step, walking-within}
 use Rattle.planedit.specs.declared.Bad.{Bad}

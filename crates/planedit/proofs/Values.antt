@@ -21,7 +21,7 @@ use Rattle.rules.proofs.Exact.{own-edited}
 use Rattle.rules.proofs.Fields.{length-field}
 use Rattle.rules.proofs.Forms.{few-digits, good-parts}
 use Rattle.rules.proofs.PlanWalk.{formAt, widthAt}
-use Rattle.decimal.proofs.Table.{powers}
+use Rattle.rules.specs.Powers.{powers}
 use Rattle.copying.specs.Copy.{copied}
 use Rattle.copying.proofs.Copies.{copied-in}
 use Rattle.roles.specs.Table.{characters}

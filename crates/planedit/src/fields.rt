@@ -1,7 +1,7 @@
 // One field of a plan, by its number from 0 and the byte at which its positions start, and the value that goes into it.
-use decimal::powers::Powers;
 use decimal::sign::magnitude;
 use roles::table::Characters;
+use rules::Powers;
 use value::own::own_number;
 ghost use mathlib.Core.Path.{_≡_};
 ghost use Prim.Native.Nat.{_+_, _≤_};

@@ -3,12 +3,12 @@
 mod fields; // fields.rt: one field of a plan, and the value that goes into it
 
 use answer::refused;
-use decimal::powers::POWERS;
 use fields::number_at;
 use fields::put_at;
 use plan::is_plan;
 use roles::table::character_table;
 use rules::Answer;
+use rules::Picture;
 ghost use mathlib.Core.Path.{_≡_};
 ghost use mathlib.Core.Bool.{true};
 ghost use mathlib.Core.List.{_++_};
@@ -28,7 +28,7 @@ fn first_bad(plan: &[u8], row: &[i64]) -> Bad
     requires { ⌜ Matched (now plan) (now row) ⌝ }
     ensures { λ r. ⌜ r ≡ badOf (editVerdicts (formsIn (now (plan .entry))) (now (row .entry))) ⌝ }
 {
-    let powers = POWERS;
+    let powers = Picture::POWERS;
     let mut at = 3 * row.len() + 3;
     for i in 0..row.len() {
         let number = number_at(&powers, plan, i, at, row[i]);

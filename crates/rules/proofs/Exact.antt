@@ -18,7 +18,7 @@ use Rattle.rules.specs.Roles.{isDigit}
 use Rattle.rules.specs.Form.{Form}
 use Rattle.rules.specs.Shape.{digitCount, digitsFit, mostDigits, places, whole}
 use Rattle.rules.specs.Digits.{Digits, valueOf}
-use Rattle.rules.specs.Edit.{aligned, edited, field, hasSign, inRange, isMinus, isNegative, tooBig}
+use Rattle.rules.specs.Edit.{aligned, edited, field, hasSign, inRange, isMinus, isNegative, mostScale, tooBig}
 use Rattle.rules.specs.Read.{Edits, ReadsAs}
 use Rattle.rules.specs.Candidate.{Fits, digitIn, minusFits, readOf, shown, shownIn, signed, worthOf}
 use Rattle.rules.proofs.Digits.{ten-le, ten-pos, value-digits, value-lt}
@@ -97,7 +97,7 @@ module _ (φ : Form) where
   fits-edits d m p =
       let n = leb-true (digitCount φ) mostDigits (both (leb 1 (digitCount φ)) _ d .1) in
       let a : natAbs m < 10 ^ mostDigits = omega (arith, p .small, ten-le (digitCount φ) mostDigits n) in
-      let b : places φ ≤ mostDigits = omega (arith, digit-sum) in
+      let b : places φ ≤ mostScale = omega (arith, digit-sum) in
       let big : (ltb 0 (aligned φ m (places φ)) && isNegative m && not (hasSign φ)) ≡ false =
       by-test (isNegative m) (λ e. rw (p .sign e .1) (and-false (ltb 0 (aligned φ m (places φ)) && isNegative m))) (λ e. rw e (rw and-false)) in
       record {

@@ -3,6 +3,7 @@ pub mod Logic
 pub mod Lists
 pub mod Search
 pub mod Digits
+pub mod Powers
 pub mod Firsts
 pub mod Expand
 pub mod Marks

@@ -13,9 +13,13 @@ use Rattle.rules.specs.Roles.{isNine, isDigit, isB, opens, isSign, drift
 use Rattle.rules.specs.Form.{Form, size, roleAt}
 use Rattle.rules.specs.Shape.{mostDigits, digitCount, whole, places}
 
--- RULES 3.1: M has 15 digits at most, and q is 15 at most
+-- RULES 3.1: no scale is larger than the number of digits that a picture may have
+abbrev pub mostScale : ℕ
+mostScale = mostDigits
+
+-- RULES 3.1: M has no more digits than that, and q is a scale
 unfoldable pub inRange : ℤ → ℕ → Bool
-inRange m q = ltb (natAbs m) (10 ^ mostDigits) && leb q mostDigits
+inRange m q = ltb (natAbs m) (10 ^ mostDigits) && leb q mostScale
 
 abbrev pub isNegative : ℤ → Bool
 isNegative (pos n) = false

@@ -14,6 +14,7 @@ pub mod Collector
 pub mod Lister
 pub mod Sheet
 pub mod Lines
+pub mod Powers
 pub mod Good
 pub mod PlanBytes
 pub mod Candidate

@@ -539,27 +539,55 @@ limits =
     -- digits
     forbids "B" 5 ∷
     forbids "V" 5 ∷
-    accepts "(15)Z" 15 ∷
-    forbids "(16)Z" 5 ∷
-    accepts "(16)$" 16 ∷
-    forbids "(17)$" 5 ∷
-    accepts "(8)9V(7)9" 15 ∷
-    accepts "(14)9T" 15 ∷
-    forbids "(15)9T" 5 ∷
-    forbids "(8)9V(8)9" 5 ∷ []
+    accepts "(16)9" 16 ∷
+    accepts "(17)*" 17 ∷
+    accepts "(18)Z" 18 ∷
+    forbids "(19)Z" 5 ∷
+    accepts "(19)$" 19 ∷
+    forbids "(20)$" 5 ∷
+    accepts "(19)-" 19 ∷
+    forbids "(20)-" 5 ∷
+    accepts "(9)9V(9)9" 18 ∷
+    forbids "(9)9V(10)9" 5 ∷
+    accepts "(17)9T" 18 ∷
+    forbids "(18)9T" 5 ∷ []
 
--- RULES 3.1: each limit of a value, on both sides.
+-- RULES 3.1: each limit of a value, on both sides; and the largest values and the smallest through every call, and back.
 abbrev pub values : List Line
 values =
     -- its scale
-    edits "V(15)9" (pos 123) 15 "000000000000123" ∷
-    refuses "V(15)9" (pos 123) 16 6 ∷
-    refuses "9" (pos 0) 16 6 ∷
-    -- its magnitude
-    edits "S(15)9" (pos 999999999999999) 0 "+999999999999999" ∷
-    refuses "S(15)9" (pos 1000000000000000) 0 6 ∷
-    edits "S(15)9" (minus 999999999999999) 0 "-999999999999999" ∷
-    refuses "S(15)9" (minus 1000000000000000) 0 6 ∷ []
+    edits "V(16)9" (pos 123) 16 "0000000000000123" ∷
+    edits "V(18)9" (pos 123) 18 "000000000000000123" ∷
+    refuses "V(18)9" (pos 123) 19 6 ∷
+    edits "9" (pos 0) 18 "0" ∷
+    refuses "9" (pos 0) 19 6 ∷
+    -- its magnitude, edited and read back
+    edits "S(18)9" (pos 1000000000000000) 0 "+001000000000000000" ∷
+    edits "S(18)9" (pos 999999999999999999) 0 "+999999999999999999" ∷
+    refuses "S(18)9" (pos 1000000000000000000) 0 6 ∷
+    edits "S(18)9" (minus 999999999999999999) 0 "-999999999999999999" ∷
+    refuses "S(18)9" (minus 1000000000000000000) 0 6 ∷
+    edits "(19)-" (minus 999999999999999999) 0 "-999999999999999999" ∷
+    edits "(17)9R" (minus 999999999999999999) 0 "99999999999999999R" ∷
+    reads "S(18)9" "+999999999999999999" (pos 999999999999999999) ∷
+    reads "S(18)9" "-999999999999999999" (minus 999999999999999999) ∷
+    reads "(17)9R" "99999999999999999R" (minus 999999999999999999) ∷
+    -- both: brought to 17 places, where the product with a power of ten may pass 64 bits, and to 18 places and none
+    refuses "9V(17)9" (pos 999999999999999999) 0 8 ∷
+    refuses "9V(17)9" (pos 1000000000000000000) 0 6 ∷
+    refuses "9V(17)9" (pos 10) 0 8 ∷
+    edits "9V(17)9" (pos 9) 0 "900000000000000000" ∷
+    edits "V(18)9" (pos 999999999999999999) 18 "999999999999999999" ∷
+    edits "9" (pos 999999999999999999) 18 "0" ∷
+    -- by plans, into a run and in a listing
+    compiles "(18)9;" (1 ∷ 18 ∷ 18 ∷ 0 ∷ 0 ∷ 18 ∷ replicate 18 0) ∷
+    planReads "S(18)9;S(18)9;" "+999999999999999999-999999999999999999" (pos 5 ∷ pos 5 ∷ []) (success 2 (pos 0)) (pos 999999999999999999 ∷ minus 999999999999999999 ∷ []) ∷
+    planEdits "S(18)9;9;" (minus 999999999999999999 ∷ pos 1 ∷ []) "####################" (success 20 (pos 0)) "-9999999999999999991" ∷
+    planEdits "V(18)9;9;" (pos 999999999999999999 ∷ pos 1 ∷ []) "###################" (success 19 (pos 0)) "9999999999999999991" ∷
+    planEdits "9;S(18)9;" (pos 1 ∷ minus 1000000000000000000 ∷ []) "####################" (refusal 6 2) "####################" ∷
+    readsRun "S(18)9" "+999999999999999999" (replicate 8 238) 65536 (255 ∷ 255 ∷ 99 ∷ 167 ∷ 179 ∷ 182 ∷ 224 ∷ 13 ∷ []) ∷
+    readsRun "S(18)9" "-999999999999999999" (replicate 8 238) 65536 (1 ∷ 0 ∷ 156 ∷ 88 ∷ 76 ∷ 73 ∷ 31 ∷ 242 ∷ []) ∷
+    lists "S(18)9;\n-999999999999999999\n+999999999999999999\n" "0,0,0,1,19\n1,0,0,-999999999999999999\n2,0,0,999999999999999999\n" ∷ []
 
 -- RULES 5.1: each limit of a layout, on both sides.
 abbrev pub layouts : List Line
@@ -597,18 +625,18 @@ orders =
     forbids (repeated 129 "Q") 1 ∷
     forbids "(64)9(64)9Q" 2 ∷
     forbids "(64)9Z" 3 ∷
-    forbids "(16)9Z" 4 ∷
-    forbids "(16)9" 5 ∷
+    forbids "(19)9Z" 4 ∷
+    forbids "(19)9" 5 ∷
     -- editing a value: picture, 6, 8, 7
-    refuses "9Z" (pos 1000000000000000) 0 4 ∷
-    refuses "(16)9" (pos 1) 16 5 ∷
-    refuses "9" (minus 1000000000000000) 0 6 ∷
-    refuses "9" (pos 100) 16 6 ∷
+    refuses "9Z" (pos 1000000000000000000) 0 4 ∷
+    refuses "(19)9" (pos 1) 19 5 ∷
+    refuses "9" (minus 1000000000000000000) 0 6 ∷
+    refuses "9" (pos 100) 19 6 ∷
     editsInto "9" (pos 10) 0 "" (refusal 8 0) "" ∷
     editsInto "9" (pos 9) 0 "" (refusal 7 0) "" ∷
     -- reading a field: picture, 9, 10
     rejects "9Z" "x" 4 ∷
-    rejects "(16)9" "" 5 ∷
+    rejects "(19)9" "" 5 ∷
     rejects "9" "" 9 ∷
     rejects "9" "xx" 9 ∷
     rejects "9" "x" 10 ∷ []
@@ -631,12 +659,12 @@ planOrders =
     planReads "9;99;S9;" "x22+3" (pos 5 ∷ pos 5 ∷ []) (refusal 7 0) (pos 5 ∷ pos 5 ∷ []) ∷
     planReads "9;99;S9;" "12x 3" (pos 5 ∷ pos 5 ∷ pos 5 ∷ []) (refusal 10 2) (pos 5 ∷ pos 5 ∷ pos 5 ∷ []) ∷
     -- editing a row: 9, the first field that has 6 or 8 and of one field 6, 7
-    planEdits "9;99V9;S9;" (pos 10 ∷ pos 1000000000000000 ∷ []) "" (refusal 9 0) "" ∷
+    planEdits "9;99V9;S9;" (pos 10 ∷ pos 1000000000000000000 ∷ []) "" (refusal 9 0) "" ∷
     planEdits "9;99V9;S9;" (pos 1 ∷ pos 2 ∷ pos 3 ∷ pos 4 ∷ []) "######" (refusal 9 0) "######" ∷
-    planEdits "9;99V9;S9;" (pos 10 ∷ pos 1000000000000000 ∷ pos 0 ∷ []) "######" (refusal 8 1) "######" ∷
-    planEdits "9;99V9;S9;" (pos 9 ∷ minus 1000000000000000 ∷ pos 10 ∷ []) "######" (refusal 6 2) "######" ∷
+    planEdits "9;99V9;S9;" (pos 10 ∷ pos 1000000000000000000 ∷ pos 0 ∷ []) "######" (refusal 8 1) "######" ∷
+    planEdits "9;99V9;S9;" (pos 9 ∷ minus 1000000000000000000 ∷ pos 10 ∷ []) "######" (refusal 6 2) "######" ∷
     planEdits "9;99V9;S9;" (pos 9 ∷ minus 1 ∷ minus 9 ∷ []) "" (refusal 8 2) "" ∷
-    planEdits "9;99V9;S9;" (pos 9 ∷ pos 999 ∷ pos 1000000000000000 ∷ []) "" (refusal 6 3) "" ∷
+    planEdits "9;99V9;S9;" (pos 9 ∷ pos 999 ∷ pos 1000000000000000000 ∷ []) "" (refusal 6 3) "" ∷
     planEdits "9;99V9;S9;" (pos 9 ∷ pos 999 ∷ minus 9 ∷ []) "#####" (refusal 7 0) "#####" ∷ []
 
 -- RULES 5.3, each byte of a plan: the roles 0 to 17, the kinds 0 to 6, V at every place, and a record length of two bytes.
@@ -669,7 +697,7 @@ plans =
 -- RULES 5.4, bytes that are no plan: no field, a byte less or more, another count, the count's bytes exchanged, a kind that no position bears out, a byte
 -- past the roles, V within a mark, half a mark, a mark that ends in the symbol R, two signs, two punched ones, a drifting one and a mark beside a punched
 -- one, a suppressible digit behind one, a symbol drifting and static, one drifting alone, two dollar signs, a suppressible digit between V and a
--- nine, 64 positions and a V, 16 digits, 33 fields.
+-- nine, 64 positions and a V, 19 digits, 33 fields.
 abbrev pub noPlans : List Line
 noPlans =
     noPlan [] ∷
@@ -698,7 +726,7 @@ noPlans =
     noPlan (1 ∷ 3 ∷ 3 ∷ 0 ∷ 0 ∷ 3 ∷ 6 ∷ 0 ∷ 6 ∷ []) ∷
     noPlan (1 ∷ 3 ∷ 1 ∷ 1 ∷ 0 ∷ 3 ∷ 1 ∷ 1 ∷ 0 ∷ []) ∷
     noPlan (1 ∷ 64 ∷ 1 ∷ 0 ∷ 0 ∷ 64 ∷ 0 ∷ replicate 63 10) ∷
-    noPlan (1 ∷ 16 ∷ 16 ∷ 0 ∷ 0 ∷ 16 ∷ replicate 16 0) ∷
+    noPlan (1 ∷ 19 ∷ 19 ∷ 0 ∷ 0 ∷ 19 ∷ replicate 19 0) ∷
     noPlan (33 ∷ series 33 (1 ∷ 1 ∷ 0 ∷ []) ++ (0 ∷ 33 ∷ replicate 33 0)) ∷ []
 
 -- RULES 7: the number, 256 times the field and 65,536 times the length as one; a row as eight bytes a number, the low byte first and a
@@ -715,8 +743,8 @@ runs =
     stores (pos 258 ∷ []) (2 ∷ 1 ∷ 0 ∷ 0 ∷ 0 ∷ 0 ∷ 0 ∷ 0 ∷ []) ∷
     stores (minus 2 ∷ []) (254 ∷ 255 ∷ 255 ∷ 255 ∷ 255 ∷ 255 ∷ 255 ∷ 255 ∷ []) ∷
     stores (pos 7 ∷ minus 1 ∷ []) (7 ∷ 0 ∷ 0 ∷ 0 ∷ 0 ∷ 0 ∷ 0 ∷ 0 ∷ replicate 8 255) ∷
-    stores (pos 999999999999999 ∷ []) (255 ∷ 127 ∷ 198 ∷ 164 ∷ 126 ∷ 141 ∷ 3 ∷ 0 ∷ []) ∷
-    stores (minus 999999999999999 ∷ []) (1 ∷ 128 ∷ 57 ∷ 91 ∷ 129 ∷ 114 ∷ 252 ∷ 255 ∷ []) ∷
+    stores (pos 999999999999999999 ∷ []) (255 ∷ 255 ∷ 99 ∷ 167 ∷ 179 ∷ 182 ∷ 224 ∷ 13 ∷ []) ∷
+    stores (minus 999999999999999999 ∷ []) (1 ∷ 0 ∷ 156 ∷ 88 ∷ 76 ∷ 73 ∷ 31 ∷ 242 ∷ []) ∷
     readsRun "-9" "-2" (replicate 9 238) 65536 (254 ∷ 255 ∷ 255 ∷ 255 ∷ 255 ∷ 255 ∷ 255 ∷ 255 ∷ 238 ∷ []) ∷
     readsRun "9Z" "1" [] 4 [] ∷
     readsRun "-9" "x" (replicate 7 238) 9 (replicate 7 238) ∷

@@ -19,7 +19,7 @@ LONG = 3
 abbrev pub SHAPE : ℕ
 SHAPE = 4
 
--- there are no digits or over 15
+-- there are no digits or over 18
 abbrev pub DIGITS : ℕ
 DIGITS = 5
 

@@ -59,9 +59,9 @@ formShape φ =
 unfoldable pub shape : List ℕ → Bool
 shape s = oneV s && (oneDrifts s && (suppressionApart s && formShape (formOf s)))
 
--- RULES 2.13: from 1 digit to 15
+-- RULES 2.13: from 1 digit to 18
 abbrev pub mostDigits : ℕ
-mostDigits = 15
+mostDigits = 18
 
 abbrev pub digitCount : Form → ℕ
 digitCount φ = count isDigit (φ .roles)

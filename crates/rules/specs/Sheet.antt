@@ -144,8 +144,8 @@ others =
     edits "$$B$$9" (pos 123) 0 " $ 123" ∷
     forbids "(64)9" 5 ∷
     forbids "(64)9V" 3 ∷
-    accepts "(15)9" 15 ∷
-    forbids "(16)9" 5 ∷
+    accepts "(18)9" 18 ∷
+    forbids "(19)9" 5 ∷
     forbids "9Z" 4 ∷
     forbids "CR" 5 ∷
     forbids "(0)9" 2 ∷

@@ -32,7 +32,7 @@ struct Walked {
 pub struct Judged {
     // every rule holds, but for that on the number of digits
     pub shaped: bool,
-    // 1 to 15 digits
+    // 1 digit at least, and no more than a picture may have
     pub digits: bool,
 }
 

@@ -14,10 +14,11 @@ use Rattle.rules.specs.Numbers.{VALUE, SIZE, when, unless, firstOf}
 use Rattle.rules.specs.Text.{mostSymbols}
 use Rattle.rules.specs.Form.{Form, size}
 use Rattle.rules.specs.Shape.{mostDigits, digitCount, whole, places}
-use Rattle.rules.specs.Edit.{inRange, isNegative, hasSign, tooBig}
+use Rattle.rules.specs.Edit.{mostScale, inRange, isNegative, hasSign, tooBig}
 use Rattle.rules.proofs.Logic.{by-test, lt-or-le, neither}
 use Rattle.rules.proofs.Exact.{above, digit-sum, own-aligned, own-small, own-whole}
-use Rattle.decimal.proofs.Table.{powers, power-at}
+use Rattle.rules.specs.Powers.{powers}
+use Rattle.rules.proofs.Powers.{power-at}
 use Rattle.value.specs.Settling.{ownNumber, ownOver}
 
 module _ (table : List ℕ) (φ : Form) (m : ℤ) (t : ℕ) (e : t ≡ natAbs m) where
@@ -70,7 +71,7 @@ module _ (φ : Form) (m : ℤ) where
 
     pub own-number-is : ownNumber powers φ m ≡ firstOf (unless (inRange m (places φ)) VALUE ∷ when (tooBig φ m (places φ)) SIZE ∷ [])
     unfolding ownNumber inRange
-    own-number-is = rw (big-is, le-leb (places φ) mostDigits (omega (arith, digit-sum φ)), and-true)
+    own-number-is = rw (big-is, le-leb (places φ) mostScale (omega (arith, digit-sum φ)), and-true)
 
   -- what is not too big has no more digits than the form
   pub own-fits : tooBig φ m (places φ) ≡ false → natAbs m < 10 ^ digitCount φ

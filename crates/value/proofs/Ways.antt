@@ -9,7 +9,7 @@ use lib.IntN.{ℤ, natAbs}
 use Rattle.rules.specs.Numbers.{firstOf}
 use Rattle.rules.specs.Form.{Form}
 use Rattle.rules.specs.Shape.{mostDigits, digitCount, whole, places}
-use Rattle.rules.specs.Edit.{inRange, isNegative, aligned, isMinus, hasSign, tooBig}
+use Rattle.rules.specs.Edit.{mostScale, inRange, isNegative, aligned, isMinus, hasSign, tooBig}
 use Rattle.rules.proofs.Logic.{by-test}
 use Rattle.rules.proofs.Exact.{digit-sum}
 use Rattle.decimal.specs.declared.sign.Parts.{Parts}
@@ -36,7 +36,7 @@ and-comm false true = refl
 and-comm false false = refl
 
 module _ (φ : Form) (m : ℤ) (q : ℕ) (p : Parts) (e : p ≡ partsOf m) where
-  range-is : inRange m q ≡ (p .fits && leb q mostDigits)
+  range-is : inRange m q ≡ (p .fits && leb q mostScale)
   range-is = rw e (parts-range m q)
 
   pub out-of-range : not (p .fits) ≡ true → refusal 6 ≡ settledOf φ m q
@@ -47,13 +47,13 @@ module _ (φ : Form) (m : ℤ) (q : ℕ) (p : Parts) (e : p ≡ partsOf m) where
     fits : partsOf m .fits ≡ true
     fits = rw (← e) (not-false (p .fits) n)
 
-    pub out-of-scale : mostDigits < q → refusal 6 ≡ settledOf φ m q
+    pub out-of-scale : mostScale < q → refusal 6 ≡ settledOf φ m q
     unfolding settledOf settleNumber firstOf
-    out-of-scale l = rw (range-is, lt-leb q mostDigits l, and-false (p .fits))
+    out-of-scale l = rw (range-is, lt-leb q mostScale l, and-false (p .fits))
 
-    module _ (l : q ≤ mostDigits) (w : Measured) (d : w ≡ measureOf φ) (a : Aligned) (x : a ≡ alignedOf (p .magnitude) q (w .whole) (w .places)) where
+    module _ (l : q ≤ mostScale) (w : Measured) (d : w ≡ measureOf φ) (a : Aligned) (x : a ≡ alignedOf (p .magnitude) q (w .whole) (w .places)) where
       in-range : inRange m q ≡ true
-      in-range = rw (range-is, not-false (p .fits) n) (le-leb q mostDigits l)
+      in-range = rw (range-is, not-false (p .fits) n) (le-leb q mostScale l)
 
       size-is : natAbs m < 10 ^ mostDigits
       size-is = parts-small m fits

@@ -1,9 +1,9 @@
 // A value at the form's own scale, where the aligned magnitude is the magnitude itself: whether it is refused. A plan's fields ask for no more.
-use decimal::powers::Powers;
 use decimal::sign::magnitude;
 use field::survey::is_signed;
 use roles::is_digit;
 use rules::Picture;
+use rules::Powers;
 ghost use mathlib.Core.Path.{_≡_};
 ghost use Prim.Native.Nat.{_≤_};
 ghost use lib.ListN.{length};

@@ -1,5 +1,6 @@
 -- `value::settle` meets its contract: each way through it is a law of Ways. Assumes nothing.
 use mathlib.Core.Path.{_≡_, refl, _∙_, ap}
+use native.Mathlib.Omega.{arith}
 use borrow.Author.Needs.{needs}
 use mir.Facts.{toZ-ofZ}
 use Rattle.decimal.specs.Sign.{partsOf}
@@ -15,7 +16,7 @@ returns : tie.Need-returns
 returns c = c .unsettled .ensures ∙ out-of-range _ _ _ _ (parts (c .before .before .before)) (c .before .if1 .taken)
 
 returns-2 : tie.Need-returns-2
-returns-2 c = c .unsettled2 .ensures ∙ out-of-scale _ _ _ _ (parts (c .before .before .before .before)) (c .before .before .if1 .left) (c .before .if2 .taken)
+returns-2 c = c .unsettled2 .ensures ∙ out-of-scale _ _ _ _ (parts (c .before .before .before .before)) (c .before .before .if1 .left) (omega (arith, c .before .if2 .taken))
 
 returns-3 : tie.Need-returns-3
 returns-3 c =

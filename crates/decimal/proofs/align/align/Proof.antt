@@ -1,10 +1,10 @@
 -- `decimal::align::align` meets its contract: the four tests are the definition's, the table is read as powers, and the size test holds
--- the product below 10^15. Assumes nothing.
+-- the product below the limit. Assumes nothing.
 use mathlib.Core.Path.{sym, ap}
 use Prim.Native.Nat.{_-_, _*_, _/_, _^_, _<_}
 use native.Mathlib.Omega.{arith}
 use borrow.Author.Needs.{needs}
-use Rattle.decimal.proofs.Table.{power-at, power-pos}
+use Rattle.rules.proofs.Powers.{power-at, power-pos}
 use Rattle.decimal.proofs.Cut.{up-lt, aligned-large, aligned-scale, aligned-room, aligned-over, aligned-up, aligned-down}
 use Rattle.decimal.proofs.align.align.Statement.{statement}
 use Rattle.decimal.proofs.align.align.Tie as tie
