@@ -21,6 +21,9 @@ pub struct Picture {
 }
 
 impl Picture {
+    /// The most digits of a picture. A value has no more digits and no larger scale.
+    pub const MOST_DIGITS: usize = 18;
+
     /// The picture of a text, or the first of TEXT, SYMBOL, LONG, SHAPE, DIGITS.
     pub fn of(text: &[u8]) -> Result<Picture, Refusal> {
         let symbols = symbols_of(text)?;
@@ -28,7 +31,7 @@ impl Picture {
             return Err(Refusal::Shape);
         }
         let digits = digits(&symbols);
-        if digits.is_empty() || digits.len() > 15 {
+        if digits.is_empty() || digits.len() > Picture::MOST_DIGITS {
             return Err(Refusal::Digits);
         }
         let v = symbols.iter().position(|&s| s == Symbol::V);

@@ -16,7 +16,7 @@ pub struct Aligned {
 /// Aligns M at scale q, or VALUE or SIZE in this order.
 pub fn align(picture: &Picture, m: i64, q: u64) -> Result<Aligned, Refusal> {
     let magnitude = i128::from(m).unsigned_abs();
-    if magnitude >= power(15) || q > 15 {
+    if magnitude >= power(Picture::MOST_DIGITS) || q > Picture::MOST_DIGITS as u64 {
         return Err(Refusal::Value);
     }
     let q = q as usize;

@@ -4,7 +4,7 @@ use second::cases::{hex, unhex, Case, Reply};
 use second::collector::numbers;
 use second::make::{case, random::Random, KINDS};
 use second::rules_of_shape::Picture;
-use second::text_to_symbols::Symbol;
+use second::text_to_symbols::{symbols_of, Symbol};
 
 fn answered(kind: &str, seed: u64, count: usize) -> Vec<(Case, Reply)> {
     let mut random = Random::new(seed);
@@ -140,6 +140,108 @@ fn many_cases_hide_a_b() {
     }
     let many = edited[..3].iter().chain(&read[..3]).all(|&count| count > 30) && refused[3] > 300;
     assert!(many && edited[3] == 0 && read[3] == 0, "{edited:?} {read:?} {refused:?}");
+}
+
+/// The values next beyond the range of M, and the ends of 64 bits.
+const BEYOND: [i64; 6] = [
+    1_000_000_000_000_000_000,
+    1_000_000_000_000_000_001,
+    -1_000_000_000_000_000_000,
+    -1_000_000_000_000_000_001,
+    i64::MAX,
+    i64::MIN,
+];
+
+/// How many digits a number has; 0 has none.
+fn digits(m: i64) -> usize {
+    if m == 0 {
+        0
+    } else {
+        m.unsigned_abs().to_string().len()
+    }
+}
+
+#[test]
+fn many_values_stand_at_the_limits() {
+    let (mut by_digits, mut by_scale, mut largest) = ([0; 19], [0; 19], [0; 2]);
+    let (mut beyond, mut scale_beyond) = ([0; BEYOND.len()], 0);
+    for (case, reply) in answered("edit", 27, 20_000) {
+        let Case::Edit { m, q, .. } = case else { panic!("another call: {}", case.line()) };
+        match (reply.number(), BEYOND.iter().position(|&other| other == m)) {
+            (0, _) => {
+                by_digits[digits(m)] += 1;
+                by_scale[q as usize] += 1;
+                largest[usize::from(m < 0)] += usize::from(m.unsigned_abs() == 999_999_999_999_999_999);
+            }
+            (6, Some(k)) => beyond[k] += 1,
+            (6, None) => scale_beyond += usize::from(q == 19),
+            _ => {}
+        }
+    }
+    let often = |counts: &[usize]| counts.iter().all(|&count| count > 40);
+    assert!(often(&by_digits) && often(&by_scale), "{by_digits:?} {by_scale:?}");
+    assert!(often(&largest) && often(&beyond) && scale_beyond > 40, "{largest:?} {beyond:?} {scale_beyond}");
+    assert!(by_digits[18] > 400 && by_scale[18] > 400, "{by_digits:?} {by_scale:?}");
+}
+
+/// How many digits the symbols of a text have.
+fn digits_in(text: &[u8]) -> usize {
+    let symbols = symbols_of(text).unwrap_or_default();
+    let times = |of: &[Symbol]| symbols.iter().filter(|symbol| of.contains(symbol)).count();
+    let drifting = [Symbol::S, Symbol::Plus, Symbol::Minus, Symbol::Dollar].map(|symbol| times(&[symbol]));
+    let fixed = times(&[Symbol::Nine, Symbol::Z, Symbol::Star, Symbol::T, Symbol::I, Symbol::R]);
+    fixed + drifting.iter().map(|times| times.saturating_sub(1)).sum::<usize>()
+}
+
+#[test]
+fn many_pictures_stand_at_the_limits() {
+    let (mut accepted, mut refused) = ([0; 20], [0; 20]);
+    for (case, reply) in answered("check", 28, 8_000) {
+        let Case::Check { text } = case else { panic!("another call: {}", case.line()) };
+        match reply.number() {
+            0 => accepted[digits_in(&text)] += 1,
+            5 => refused[digits_in(&text).min(19)] += 1,
+            _ => {}
+        }
+    }
+    let often = accepted[1..19].iter().all(|&count| count > 40) && accepted[18] > 200 && refused[19] > 200;
+    let rightly = accepted[0] + accepted[19] + refused[1..19].iter().sum::<usize>() == 0;
+    assert!(often && rightly, "{accepted:?} {refused:?}");
+}
+
+#[test]
+fn many_rows_stand_at_the_limits() {
+    let (mut read, mut edited, mut beyond) = ([0; 19], [0; 19], [0; BEYOND.len()]);
+    for (case, reply) in answered("layout", 29, 12_000) {
+        match (&case, reply.number()) {
+            (Case::PlanRead { plan, .. }, 0) => {
+                numbers(&reply.memory)[..usize::from(plan[0])].iter().for_each(|&m| read[digits(m)] += 1);
+            }
+            (Case::PlanEdit { row, .. }, 0) => numbers(row).iter().for_each(|&m| edited[digits(m)] += 1),
+            (Case::PlanEdit { row, .. }, 6) => {
+                let refused = numbers(row)[(reply.packed / 256 % 256) as usize - 1];
+                BEYOND.iter().position(|&other| other == refused).into_iter().for_each(|k| beyond[k] += 1);
+            }
+            _ => {}
+        }
+    }
+    let many = read.iter().chain(&edited).chain(&beyond).all(|&count| count > 20);
+    assert!(many && read[18] > 100 && edited[18] > 100, "{read:?} {edited:?} {beyond:?}");
+}
+
+#[test]
+fn many_plans_stand_at_the_limits() {
+    let (mut run, mut refused) = ([0; 20], [0; 20]);
+    for (case, reply) in answered("layout", 30, 12_000) {
+        if let Case::PlanRead { plan, .. } | Case::PlanEdit { plan, .. } = &case {
+            if let [1, _, _, _, 0, _, positions @ ..] = &plan[..] {
+                let digits = positions.iter().filter(|role| matches!(role, 0 | 1 | 15..=17)).count();
+                (if reply.number() == 12 { &mut refused } else { &mut run })[digits.min(19)] += 1;
+            }
+        }
+    }
+    let many = run[16] > 10 && run[17] > 20 && run[18] > 40 && refused[19] > 5;
+    assert!(many && run[19] == 0, "{run:?} {refused:?}");
 }
 
 #[test]

@@ -1,8 +1,9 @@
 //! The calls of the C collector: packed answers, rows as byte runs of any length, spare bytes left alone.
 
-use second::collector::{bytes, compile, numbers, plan_edit, plan_read, read};
+use second::collector::{bytes, check, compile, edit, numbers, plan_edit, plan_read, read};
 use second::sheet_of_examples::{LAYOUT, PLAN};
 
+const VALUE: u64 = 6;
 const ROOM: u64 = 7;
 const LENGTH: u64 = 9;
 
@@ -60,4 +61,40 @@ fn reading_a_single_field() {
     assert_eq!(row, [0xee; 9]);
     assert_eq!(read(b"-9", b"-2", &mut row), 65_536);
     assert_eq!(row, [254, 255, 255, 255, 255, 255, 255, 255, 0xee]);
+}
+
+/// The largest M and the smallest, as a row.
+const LARGEST: [i64; 2] = [999_999_999_999_999_999, -999_999_999_999_999_999];
+const LARGEST_ROW: [u8; 16] =
+    [0xff, 0xff, 0x63, 0xa7, 0xb3, 0xb6, 0xe0, 0x0d, 0x01, 0x00, 0x9c, 0x58, 0x4c, 0x49, 0x1f, 0xf2];
+
+#[test]
+fn the_largest_values_in_rows() {
+    assert_eq!(bytes(&LARGEST), LARGEST_ROW);
+    assert_eq!(numbers(&LARGEST_ROW), LARGEST);
+    let (mut plan, mut record, mut row) = ([0; 48], [b'#'; 39], [0xee; 17]);
+    assert_eq!(compile(b"(18)9;S(9)9V.(9)9;", &mut plan), 65_536 * 47);
+    let fields = b"999999999999999999-999999999.999999999#";
+    assert_eq!(plan_edit(&plan[..47], &LARGEST_ROW, &mut record), 65_536 * 38);
+    assert_eq!(record, *fields);
+    assert_eq!(plan_read(&plan[..47], &fields[..38], &mut row), 65_536 * 2);
+    assert_eq!(row, *[&LARGEST_ROW[..], &[0xee]].concat());
+    for (changed, field) in [([LARGEST[0] + 1, 0], 1), ([0, LARGEST[1] - 1], 2), ([i64::MAX, i64::MIN], 1)] {
+        assert_eq!(plan_edit(&plan[..47], &bytes(&changed), &mut record), VALUE + 256 * field);
+    }
+    assert_eq!(record, *fields);
+}
+
+#[test]
+fn the_largest_values_of_one_picture() {
+    assert_eq!((check(b"(18)9"), check(b"(19)9"), check(b"(19)$"), check(b"(20)$")), (65_536 * 18, 5, 65_536 * 19, 5));
+    let (mut out, mut row) = ([b'#'; 20], [0xee; 9]);
+    assert_eq!(edit(b"S(18)9", LARGEST[1], 0, &mut out), 65_536 * 19);
+    assert_eq!(&out, b"-999999999999999999#");
+    assert_eq!(read(b"S(18)9", &out[..19], &mut row), 65_536);
+    assert_eq!(row, *[&LARGEST_ROW[8..], &[0xee]].concat());
+    for (m, q) in [(LARGEST[0] + 1, 0), (LARGEST[1] - 1, 18), (LARGEST[0], 19), (0, 19)] {
+        assert_eq!(edit(b"S(18)9", m, q, &mut out), VALUE);
+    }
+    assert_eq!(&out, b"-999999999999999999#");
 }

@@ -3,6 +3,9 @@
 use second::sheet_of_examples::blanks;
 use second::{check, compile, edit, is_plan, plan_edit, plan_read, read, Answer};
 
+/// The largest M.
+const LARGEST: i64 = 999_999_999_999_999_999;
+
 fn all_are(number: u64, texts: &[&str]) {
     for text in texts {
         assert_eq!(check(text.as_bytes()).number, number, "{text}");
@@ -160,14 +163,41 @@ fn a_punched_digit_has_the_shape_of_a_nine() {
         &["T", "I", "R", "ZT", "ZT9", "ZZR", "*I", "**T", "$$,$$T", "$$R9", "ZVT", "Z9VT9", "VT", "TV", "TV9", "9VT"],
     );
     all_are(0, &["R99", "9I9", "99T9", "ZZV9T", ",T", "T,", "B.T/B", "V$T", "T$V"]);
-    all_are(0, &["(14)9T", "T(14)9", "(14)ZR", "(14)*I", "(15)$T", "(7)9IV(7)9"]);
-    all_are(5, &["(15)9T", "T(15)9", "(15)ZR", "(16)$T"]);
+    all_are(0, &["(17)9T", "T(17)9", "(17)ZR", "(17)*I", "(18)$T", "(9)9IV(8)9", "V(17)9T", "TV(17)9"]);
+    all_are(0, &["(15)9T", "T(16)9", "(15)ZR", "(16)*I", "(16)$T", "(8)9IV(8)9"]);
+    all_are(5, &["(18)9T", "T(18)9", "(18)ZR", "(18)*I", "(19)$T", "(9)9IV(9)9", "V(18)9T", "TV(18)9"]);
 }
 
 #[test]
 fn numbers_of_digits() {
-    all_are(0, &["(16)$", "(16)-", "(15)Z", "(15)9", "(8)ZV(7)Z", "(8)9V(7)9"]);
-    all_are(5, &["(17)$", "(16)Z", "(16)9", "(8)ZV(8)Z", "(64)9", "(64)*"]);
+    all_are(0, &["(19)$", "(19)-", "(18)Z", "(18)9", "(9)ZV(9)Z", "(9)9V(9)9"]);
+    all_are(5, &["(20)$", "(20)-", "(19)Z", "(19)9", "(9)ZV(10)Z", "(10)9V(9)9", "(64)9", "(64)*"]);
+    accepted("(18)9", 18);
+    accepted("(19)$", 19);
+    accepted("$(18)9CR", 21);
+    accepted("(18)*(44)BCR", 64);
+    all_are(5, &["$(19)9CR", "(19)*(43)BCR", "(19)Z(45)/"]);
+}
+
+#[test]
+fn numbers_of_digits_of_every_kind() {
+    for digits in 1..=21 {
+        let number = if digits > 18 { 5 } else { 0 };
+        for (symbol, first) in [("9", 0), ("Z", 0), ("*", 0), ("S", 1), ("+", 1), ("-", 1), ("$", 1)] {
+            all_are(number, &[&format!("({}){symbol}", first + digits), &symbol.repeat(first + digits)]);
+            for v in 0..=digits {
+                all_are(number, &[&format!("{}V{}", symbol.repeat(first + v), symbol.repeat(digits - v))]);
+            }
+        }
+        for (symbol, at) in ["T", "I", "R"].into_iter().flat_map(|symbol| (0..digits).map(move |at| (symbol, at))) {
+            all_are(number, &[&format!("{}{symbol}{}", "9".repeat(at), "9".repeat(digits - 1 - at))]);
+        }
+        for suppressible in 1..digits {
+            for symbol in ["Z", "*"] {
+                all_are(number, &[&format!("({suppressible}){symbol}V{}", "9".repeat(digits - suppressible))]);
+            }
+        }
+    }
 }
 
 #[test]
@@ -284,10 +314,10 @@ fn punched_digits_take_negatives() {
     edit_is(8, "VT", 1, 0);
     edits("99T", -1_239, 1, "12L");
     edits("99T", 1_239, 1, "12C");
-    edits("(14)9T", -999_999_999_999_999, 0, "99999999999999R");
-    edits("I(14)9", 999_999_999_999_999, 0, "I99999999999999");
-    edit_is(6, "T", -1_000_000_000_000_000, 15);
-    edits("T", -999_999_999_999_999, 15, "{");
+    edits("(17)9T", -LARGEST, 0, "99999999999999999R");
+    edits("I(17)9", LARGEST, 0, "I99999999999999999");
+    edit_is(6, "T", -LARGEST - 1, 18);
+    edits("T", -LARGEST, 18, "{");
 }
 
 #[test]
@@ -352,10 +382,32 @@ fn whole_part_too_large() {
     edit_is(8, "V99", 100, 2);
     edits("V99", 99, 2, "99");
     edits("V99", 9_999, 4, "99");
-    edit_is(8, "9V(14)9", 10, 0);
-    edits("9V(14)9", 9, 0, "900000000000000");
-    edits("V(15)9", 999_999_999_999_999, 15, "999999999999999");
-    edits("(15)9", 999_999_999_999_999, 0, "999999999999999");
+    edit_is(8, "9V(17)9", 10, 0);
+    edits("9V(17)9", 9, 0, "900000000000000000");
+    edits("V(18)9", LARGEST, 18, "999999999999999999");
+    edits("(18)9", LARGEST, 0, "999999999999999999");
+    edit_is(8, "(17)9", LARGEST, 0);
+    edit_is(8, "(17)9", 100_000_000_000_000_000, 0);
+    edits("(17)9", LARGEST, 1, "99999999999999999");
+}
+
+#[test]
+fn aligned_numbers_beyond_64_bits() {
+    for m in [10, 100_000_000_000_000_000, LARGEST, -LARGEST] {
+        edit_is(8, "SV(18)9", m, 0);
+        edit_is(8, "S9V(17)9", m, 0);
+    }
+    edit_is(8, "V(18)9", 1, 0);
+    edit_is(8, "9V(17)9", LARGEST, 16);
+    edits("9V(17)9", LARGEST, 17, "999999999999999999");
+    edits("9V(17)9", LARGEST, 18, "099999999999999999");
+    edit_is(8, "(9)9V(9)9", 1_000_000_000, 0);
+    edits("(9)9V(9)9", 999_999_999, 0, "999999999000000000");
+    // The product of each with the power of ten is a multiple of 2 to the 64.
+    edit_is(8, "V(18)9", 1 << 46, 0);
+    edit_is(8, "9V(17)9", 1 << 47, 0);
+    edit_is(8, "(9)9V(9)9", 1 << 55, 0);
+    edit_is(8, "(13)9V(5)9", 1 << 59, 0);
 }
 
 #[test]
@@ -492,19 +544,72 @@ fn plans_keep_the_bytes_of_b() {
 
 #[test]
 fn ranges_of_values_come_first() {
-    for m in [1_000_000_000_000_000, -1_000_000_000_000_000, i64::MAX, i64::MIN, i64::MIN + 1] {
-        for q in [0, 15, 16] {
-            edit_is(6, "9", m, q);
+    let limit = 1_000_000_000_000_000_000;
+    for m in [limit, -limit, limit + 1, -limit - 1, i64::MAX, i64::MIN, i64::MIN + 1] {
+        for q in [0, 17, 18, 19] {
+            for text in ["9", "S(18)9", "(9)9V(9)9", "SV(18)9", "(17)9T"] {
+                edit_is(6, text, m, q);
+            }
         }
     }
-    for q in [16, 17, 256, 1 << 32, u64::MAX] {
+    for q in [19, 20, 64, 255, 256, 1 << 32, u64::MAX] {
         edit_is(6, "9", 0, q);
         edit_is(6, "9", -999, q);
+        edit_is(6, "V(18)9", 1, q);
+        edit_is(6, "S(18)9", LARGEST, q);
     }
-    edit_is(8, "9", 999_999_999_999_999, 0);
-    edit_is(8, "9", -999_999_999_999_999, 14);
-    edits("9", -999_999_999_999_999, 15, "0");
-    edits("9", 999_999_999_999_999, 14, "9");
+    edit_is(8, "9", LARGEST, 0);
+    edit_is(8, "9", -LARGEST, 17);
+    edits("9", -LARGEST, 18, "0");
+    edits("9", LARGEST, 17, "9");
+}
+
+#[test]
+fn values_of_every_size_and_scale() {
+    for digits in 0..=18 {
+        let power = 10i64.pow(digits);
+        for m in [power - 1, power, power + 1].into_iter().filter(|&m| m <= LARGEST) {
+            shows("S(18)9", &[(m, 0, &format!("{m:+019}")), (-m, 0, &format!("{:+019}", -m))]);
+            shows("SV(18)9", &[(m, 18, &format!("{m:+019}")), (-m, 18, &format!("{:+019}", -m))]);
+        }
+    }
+    for q in 1..=18 {
+        let (below_one, nines) = (10i64.pow(q as u32) - 1, "9".repeat(q));
+        let (plus, minus) = (format!("+{nines}"), format!("-{nines}"));
+        shows(&format!("SV({q})9"), &[(below_one, q as u64, &plus), (-below_one, q as u64, &minus)]);
+        edits("S9V9", -below_one, q as u64, "-09");
+        edits("9", -below_one, q as u64, "0");
+        edits("9", 0, q as u64, "0");
+    }
+}
+
+#[test]
+fn the_largest_values_under_every_kind() {
+    for (text, plus, minus) in [
+        ("S(18)9", "+999999999999999999", "-999999999999999999"),
+        ("+(18)9", "+999999999999999999", "_999999999999999999"),
+        ("-(18)Z", "_999999999999999999", "-999999999999999999"),
+        ("(18)*CR", "999999999999999999__", "999999999999999999CR"),
+        ("$(18)9DB", "$999999999999999999__", "$999999999999999999DB"),
+        ("(19)S", "+999999999999999999", "-999999999999999999"),
+        ("(19)+", "+999999999999999999", "_999999999999999999"),
+        ("(19)-", "_999999999999999999", "-999999999999999999"),
+        ("(19)$-", "$999999999999999999_", "$999999999999999999-"),
+        ("(17)9T", "99999999999999999I", "99999999999999999R"),
+        ("I(17)9", "I99999999999999999", "999999999999999999"),
+        ("(17)ZR", "999999999999999999", "99999999999999999R"),
+    ] {
+        shows(text, &[(LARGEST, 0, plus), (-LARGEST, 0, minus)]);
+        edit_is(6, text, LARGEST + 1, 0);
+        edit_is(6, text, -LARGEST - 1, 0);
+    }
+    shows("-(9)9V.(9)9", &[(LARGEST, 9, "_999999999.999999999"), (-LARGEST, 9, "-999999999.999999999")]);
+    shows("ZZZ,ZZZ,ZZZ,ZZZ,ZZ9V.999", &[(LARGEST, 3, "999,999,999,999,999.999")]);
+    shows("(18)Z", &[(0, 0, "__________________"), (1, 0, "_________________1")]);
+    shows("(19)$", &[(0, 0, "___________________"), (1, 0, "_________________$1")]);
+    read_is(10, "(18)Z", "000000000000000001");
+    read_is(10, "(18)9", "_99999999999999999");
+    read_is(9, "(18)9", "9999999999999999999");
 }
 
 #[test]
@@ -514,7 +619,11 @@ fn order_of_refusals_on_one_picture() {
     assert_eq!(edit(b"9", i64::MIN, 0, &mut []).number, 6);
     assert_eq!(edit(b"9", 10, 0, &mut []).number, 8);
     assert_eq!(edit(b"9", 9, 0, &mut []).number, 7);
-    assert_eq!(read(b"(16)9", b"").number, 5);
+    assert_eq!(edit(b"(19)9", i64::MIN, 99, &mut []).number, 5);
+    assert_eq!(edit(b"(18)9", i64::MIN, 99, &mut []).number, 6);
+    assert_eq!(edit(b"(18)9", LARGEST, 0, &mut [0; 17]).number, 7);
+    assert_eq!(read(b"(19)9", b"").number, 5);
+    assert_eq!(read(b"(18)9", b"").number, 9);
     assert_eq!(read(b"9", b"").number, 9);
     assert_eq!(read(b"9", b"xx").number, 9);
     assert_eq!(read(b"9", b"x").number, 10);
@@ -544,6 +653,9 @@ fn layouts_that_are_refused() {
     compile_is(4, 3, b"9;Z;9Z;Q;");
     compile_is(2, 1, b"(1)V;9Z;");
     compile_is(5, 2, b"9;CR;");
+    compile_is(5, 2, b"(18)9;(19)9;Q;");
+    compile_is(5, 3, b"(19)$;(9)ZV(9)Z;(20)$;");
+    compile_is(5, 1, b"(18)9T;");
     compile_is(3, 2, b"9;(64)9V;");
     compile_is(1, 2, &[b"9;", &b"9".repeat(129)[..], b";"].concat());
 }
@@ -597,9 +709,27 @@ fn bytes_that_are_no_plan() {
     assert!(!is_plan(&field(3, 3, 0, &[3, 0, 5])), "two signs");
     assert!(!is_plan(&field(2, 2, 1, &[0, 1])), "suppressible digit behind a nine");
     assert!(!is_plan(&field(3, 1, 1, &[1, 1, 0])), "suppressible digit behind V beside a nine");
-    assert!(!is_plan(&field(16, 16, 0, &[0; 16])) && is_plan(&field(15, 15, 0, &[0; 15])), "digits");
     assert!(!is_plan(&field(1, 2, 0, &[0])) && !is_plan(&field(0, 0, 0, &[])), "V beyond the end; no position");
     assert!(!is_plan(&[]) && !is_plan(&[0]) && !is_plan(&[0, 0, 0]), "no field");
+}
+
+#[test]
+fn plans_by_their_number_of_digits() {
+    let field = |v: usize, kind: u8, positions: &[u8]| {
+        let n = positions.len() as u8;
+        is_plan(&[&[1, n, v as u8, kind, 0, n], positions].concat())
+    };
+    for digits in 1..=20 {
+        let (nines, suppressible, fits) = (vec![0; digits], vec![1; digits], digits <= 18);
+        let punched = [&nines[1..], &[15]].concat();
+        let drifting = [&[2], &suppressible[..]].concat();
+        for v in 0..=digits {
+            assert_eq!(field(v, 0, &nines), fits, "{digits} nines");
+            assert_eq!(field(v, 0, &punched), fits, "{digits} nines, one of them a T");
+            assert_eq!(field(v, 2, &suppressible), fits, "{digits} asterisks");
+            assert_eq!(field(v + 1, 6, &drifting), fits, "{digits} that drift");
+        }
+    }
 }
 
 #[test]
@@ -660,7 +790,7 @@ fn counts_of_plans() {
         changed[at] = byte;
         assert!(!is_plan(&changed));
     }
-    let large = plan(&"(49)/(15)9;".repeat(32));
+    let large = plan(&"(46)/(18)9;".repeat(32));
     assert_eq!(large.len(), 2_147);
     assert_eq!(large[97..99], [8, 0]);
     assert!(is_plan(&large));
@@ -692,9 +822,32 @@ fn order_of_refusals_in_plan_editing() {
     assert_eq!(plan_edit(&plan, &[9, i64::MIN, 10], &mut []), at(6, 2));
     assert_eq!(plan_edit(&plan, &[9, 1_000, i64::MAX], &mut []), at(8, 2));
     assert_eq!(plan_edit(&plan, &[9, -1, -9], &mut []), at(8, 2));
-    assert_eq!(plan_edit(&plan, &[9, 999, 1_000_000_000_000_000], &mut []), at(6, 3));
+    assert_eq!(plan_edit(&plan, &[9, 999, LARGEST + 1], &mut []), at(6, 3));
+    assert_eq!(plan_edit(&plan, &[9, 999, LARGEST], &mut []), at(8, 3));
+    assert_eq!(plan_edit(&plan, &[9, LARGEST, LARGEST + 1], &mut []), at(8, 2));
     assert_eq!(plan_edit(&plan, &[9, 999, -9], &mut record[..5]), at(7, 0));
     assert_eq!(record, [b'#'; 6]);
     assert_eq!(plan_edit(&plan, &[9, 999, -9], &mut record), Answer::success(6));
     assert_eq!(&record, b"9999-9");
+}
+
+#[test]
+fn plans_of_the_most_digits() {
+    let plan = plan("S(18)9;SV(18)9;(9)9V(8)9T;(19)-;(18)9;");
+    let largest = [LARGEST, -LARGEST, -LARGEST, -LARGEST, LARGEST];
+    let fields = "+999999999999999999-99999999999999999999999999999999999R-999999999999999999999999999999999999";
+    let (mut record, mut row) = ([b'#'; 93], [9; 5]);
+    assert_eq!(plan_edit(&plan, &largest, &mut record), Answer::success(93));
+    assert_eq!(String::from_utf8_lossy(&record), fields);
+    assert_eq!(plan_read(&plan, fields.as_bytes(), &mut row), Answer::success(5));
+    assert_eq!(row, largest);
+    for field in 1..=5 {
+        for beyond in [LARGEST + 1, -LARGEST - 1, LARGEST + 2, -LARGEST - 2, i64::MAX, i64::MIN] {
+            let mut row = largest;
+            row[field - 1] = beyond;
+            let refused = Answer { number: 6, field: field as u64, length: 0, value: 0 };
+            assert_eq!(plan_edit(&plan, &row, &mut record), refused);
+        }
+    }
+    assert_eq!(String::from_utf8_lossy(&record), fields);
 }

@@ -68,14 +68,28 @@ fn thirty_two_fields_and_the_longest_record() {
     gives(&[&layout[..], b"\n", &digits].concat(), &format!("0,0,0,32,32\n1,0,0{values}\n"));
     gives(&[&layout[..], b"9;\n", &digits].concat(), "0,11,0\n");
 
-    let layout = b"(49)/(15)9;".repeat(32);
-    let field = [&b"/".repeat(49)[..], b"999999999999999"].concat();
+    let layout = b"S(45)/(18)9;".repeat(32);
+    let field = [b"-", &b"/".repeat(45)[..], b"999999999999999999"].concat();
     let record = field.repeat(32);
     assert_eq!(record.len(), 2_048);
-    let values = ",999999999999999".repeat(32);
+    let values = ",-999999999999999999".repeat(32);
     gives(&[&layout[..], b"\n", &record].concat(), &format!("0,0,0,32,2048\n1,0,0{values}\n"));
     gives(&[&layout[..], b"\n", &record, b"9\n"].concat(), "0,0,0,32,2048\n1,9,0\n");
     gives(&[&layout[..], b"\n", &record[1..], b"\n"].concat(), "0,0,0,32,2048\n1,9,0\n");
+}
+
+#[test]
+fn the_limit_of_digits() {
+    gives(b"(18)9;(19)9;\n", "0,5,2\n");
+    gives(b"(20)$;\n", "0,5,1\n");
+    gives(
+        b"(19)-;\n-999999999999999999\n 999999999999999999\n                   \n-0\n",
+        "0,0,0,1,19\n1,0,0,-999999999999999999\n2,0,0,999999999999999999\n3,0,0,0\n4,9,0\n",
+    );
+    gives(
+        b"(17)9T;(16)9;\n99999999999999999R1000000000000000\n99999999999999999I9999999999999999\n",
+        "0,0,0,2,34\n1,0,0,-999999999999999999,1000000000000000\n2,0,0,999999999999999999,9999999999999999\n",
+    );
 }
 
 #[test]

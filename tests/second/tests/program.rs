@@ -133,7 +133,7 @@ fn missing_and_spare_answers_are_found() {
 #[test]
 fn stated_answers_agree() {
     let (cases, answers) = (output_of(&["sheet", "cases"], b""), output_of(&["sheet", "answers"], b""));
-    assert_eq!(judged("sheet", &cases, &answers), (Some(0), "157 compared, 0 differ\n".to_string()));
+    assert_eq!(judged("sheet", &cases, &answers), (Some(0), "171 compared, 0 differ\n".to_string()));
     assert_eq!(output_of(&["answer"], cases.as_bytes()), answers);
 }
 

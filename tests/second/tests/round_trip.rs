@@ -52,6 +52,28 @@ fn values_of_any_scale_come_back_cut() {
 }
 
 #[test]
+fn the_largest_values_come_back() {
+    let mut random = Random::new(5);
+    let pictures: Vec<_> =
+        (0..10_000).map(|_| accepted(&mut random)).map(|text| (Picture::of(&text).unwrap(), text)).collect();
+    let largest = 999_999_999_999_999_999;
+    let of_most_digits = pictures.iter().filter(|(picture, _)| picture.digits.len() == 18);
+    assert!(of_most_digits.clone().count() > 500);
+    for (picture, text) in of_most_digits {
+        let f = picture.f() as u64;
+        for m in [largest, -largest, largest - 1, 100_000_000_000_000_000, 1_000_000_000_000_000] {
+            match field(text, m, f) {
+                Some(shown) => assert_eq!(read(text, &shown), Answer::value(m), "{}", text.escape_ascii()),
+                None => assert!(m < 0 && !picture.signed(), "{} {m}", text.escape_ascii()),
+            }
+        }
+        for (m, q) in [(largest + 1, f), (-largest - 1, f), (largest, 19), (0, 19)] {
+            assert_eq!(edit(text, m, q, &mut [0; 64]).number, 6, "{} {m}@{q}", text.escape_ascii());
+        }
+    }
+}
+
+#[test]
 fn a_changed_byte_is_refused_or_gives_another_field() {
     let mut random = Random::new(3);
     for _ in 0..2_500 {
@@ -80,7 +102,7 @@ fn one_byte_more_or_less_is_a_wrong_length() {
     for _ in 0..500 {
         let text = accepted(&mut random);
         let picture = Picture::of(&text).unwrap();
-        let mut shown = field(&text, 1, 15).expect("every picture takes it");
+        let mut shown = field(&text, 1, 18).expect("every picture takes it");
         shown.push(b' ');
         assert_eq!(read(&text, &shown).number, 9);
         shown.truncate(picture.n() - 1);

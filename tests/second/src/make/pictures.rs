@@ -2,6 +2,7 @@
 
 use super::random::Random;
 use crate::check;
+use crate::rules_of_shape::Picture;
 
 const SYMBOLS: &[u8] = b"9Z*V,./BS+-$TIR";
 const ALPHABET: &[u8] = b"9Z*V,./BS+-$TICRD()0123456789";
@@ -13,21 +14,24 @@ const EDGES: &str = "\
     (64)9|(65)9|()9|( 2)9|(+2)9|(1)(2)9|9(2)|(2)|(1)V9|(1)CR|(1)R|(1)DB|9(2|9)9|(2)9)|((2)9|(64)9(64)9Q|\
     (64)9(64)9|(64)9V|(63)B9|(63)B9V|(62)B9V|(61)B9CR|(62)B9CR|(61)B9VDB|(60)B9VDB|VV|V9V|S+|SCR|+DB|S$|\
     $,S|V|B|CR|DB|VCR|V$9|VS9|9V-|9-V|9V$|9VCR|$V$|V$$|VSS|S$S|$S$|$$S9|S$$9|$$9S|$$S|-$$|SS$9|$SS9|\
-    SS9$|(16)$|(17)$|(15)Z|(16)Z|(15)9|(16)9|9Z|Z*|*Z|ZSS|$$Z|ZZ9VZ|ZVZ|Z9V9|9VZ|ZV9|*V*|**V9|9$9|$9$|\
+    SS9$|(16)$|(17)$|(18)$|(19)$|(20)$|(19)-|(20)S|(15)Z|(16)Z|(18)Z|(19)Z|(17)*|(18)*|(19)*|(15)9|(16)9|\
+    (17)9|(18)9|(19)9|V(18)9|V(19)9|9V(17)9|(17)9V9|(9)9V(9)9|(9)9V(10)9|(9)ZV(9)Z|(10)*V(9)*|(10)+V(9)+|\
+    (10)-V(10)-|(18)9CR|(19)ZDB|9Z|Z*|*Z|ZSS|$$Z|ZZ9VZ|ZVZ|Z9V9|9VZ|ZV9|*V*|**V9|9$9|$9$|\
     9S9|S9S|S9CR|-9DB|+9-|S9-|$$9CR|SS9CR|$$SS|++--|,ZZ|ZZ,|V.ZZ|VZZ|V,.Z|ZZZ.VZZ|$$,9|+ZZ|+++|ZV.9|\
     **B**|*CR|$*DB|ZDB|B*|*B|*B*|**BB9|*BV*|*VB*|B**BB.**V9|*BCR|*BDB|**DB|$$B$$9|$$B9|$$BB9|$B$9|$BB$|$B$|\
     $B$BV.99|$$B.99|$$.B99|$$VB$|B$$B$|$$BDB|--B9|-B-B-|++B+9V.99|S$B$|SBS|SSBBVBS|T|I|R|9T|9I|9R|T9|R99|99T9|\
     9CR|RCR|9RCR|CRR|9CRR|TCR|IDB|RDB|RDR|9VR|VRCR|(1)T|(01)I|(2)T|(02)I|(3)I|(2)R|(01)R|9(1)R|(1)RCR|TT|II|RR|\
     TI|IR|T9R|T,T|S9T|T9S|+T|T-|-9I|SST|--T|++9R|T--|ST$|$T|T$|9$R|R$9|ZT|*I|ZZV9T|$$,$$T|$$R|**T|TZ|I*|T$$|\
-    Z9TZ|ZT9|ZVT|ZVZT|TVZ|*V*R|ZTVZ|TV9|9VT|VT|TV|9VTV|V,T|T.V|BTB|(13)9T9|(14)9T|(15)9T|(14)ZR|(15)ZR|(15)$T|\
-    (16)$T|(64)T|(63)BT|(63)BR|(62)BTV|(63)BTV|(61)BTCR|z9|9 9|9;9|t9|9Y9|F9|9E9|99K|A9|9X|9\n|9\0";
+    Z9TZ|ZT9|ZVT|ZVZT|TVZ|*V*R|ZTVZ|TV9|9VT|VT|TV|9VTV|V,T|T.V|BTB|(15)9T|(15)ZR|(16)$T|(16)9T9|(17)9T|(18)9T|\
+    T(17)9|I(18)9|(17)ZR|(18)ZR|(18)$T|(19)$T|(17)*IV|V(17)9R|V(18)9R|(64)T|(63)BT|(63)BR|(62)BTV|(63)BTV|\
+    (61)BTCR|z9|9 9|9;9|t9|9Y9|F9|9E9|99K|A9|9X|9\n|9\0";
 
 /// A text, accepted in so many of a hundred.
 pub fn text(random: &mut Random, accepted_percent: usize) -> Vec<u8> {
     if random.percent(accepted_percent) {
         return accepted(random);
     }
-    match random.below(12) {
+    match random.below(13) {
         0..=4 => {
             let text = accepted(random);
             near_miss(random, text)
@@ -35,6 +39,7 @@ pub fn text(random: &mut Random, accepted_percent: usize) -> Vec<u8> {
         5..=8 => at_the_edges(random),
         9 => of_length(random),
         10 => other_end(random),
+        11 => built(random, Picture::MOST_DIGITS + 1),
         _ => noise(random),
     }
 }
@@ -42,14 +47,26 @@ pub fn text(random: &mut Random, accepted_percent: usize) -> Vec<u8> {
 /// An accepted text.
 pub fn accepted(random: &mut Random) -> Vec<u8> {
     loop {
-        let text = if random.percent(3) { long_text(random, 128) } else { built(random) };
+        let count = count(random);
+        let text = if random.percent(3) { long_text(random, 128) } else { built(random, count) };
         if check(&text).number == 0 {
             return text;
         }
     }
 }
 
-fn built(random: &mut Random) -> Vec<u8> {
+/// How many digits a picture has: mostly few, often as many as it may have or one less.
+fn count(random: &mut Random) -> usize {
+    let most = Picture::MOST_DIGITS;
+    match random.below(10) {
+        0..=4 => random.between(1, 4),
+        5..=7 => random.between(1, most),
+        _ => random.pick(&[1, most - 1, most, most]),
+    }
+}
+
+/// A text of so many digits that breaks no other rule than that on their number.
+fn built(random: &mut Random, count: usize) -> Vec<u8> {
     let lead = random.pick(b"9ZZ**S+-$$");
     let drifts = b"S+-$".contains(&lead);
     let leads_signed = b"S+-".contains(&lead);
@@ -65,7 +82,7 @@ fn built(random: &mut Random) -> Vec<u8> {
     random.shuffle(&mut signs);
     let (mut front, back): (Vec<u8>, Vec<u8>) = signs.into_iter().partition(|_| random.percent(60));
     let start = front.len();
-    front.extend(digits(random, lead, drifts, punched));
+    front.extend(digits(random, count, lead, drifts, punched));
     let end = front.len();
     front.extend(back);
     stray_v(random, &mut front, start, end, drifts);
@@ -85,12 +102,7 @@ fn built(random: &mut Random) -> Vec<u8> {
 }
 
 /// The digits with the first drifting symbol before them and, most times, a V among them. Where a sign is punched, a 9 is left for it.
-fn digits(random: &mut Random, lead: u8, drifts: bool, punched: Option<u8>) -> Vec<u8> {
-    let count = match random.below(10) {
-        0..=4 => random.between(1, 4),
-        5..=8 => random.between(1, 15),
-        _ => 15,
-    };
+fn digits(random: &mut Random, count: usize, lead: u8, drifts: bool, punched: Option<u8>) -> Vec<u8> {
     let v = random.percent(60).then(|| random.between(0, count));
     let mut suppressible = if lead == b'9' { 0 } else { random.between(1, count) };
     if punched.is_some() {

@@ -3,6 +3,7 @@
 use super::layouts;
 use super::random::Random;
 use crate::layouts_and_plans::{pictures_of_layout, plan_of};
+use crate::rules_of_shape::Picture;
 
 /// The plan of a good layout.
 pub fn good(random: &mut Random) -> Vec<u8> {
@@ -56,13 +57,15 @@ fn other_nine(random: &mut Random, positions: &mut [u8]) {
     }
 }
 
-/// Plans of one field that look right in each part: a V among 64 positions, a V within a mark; marks, drifts and punched digits
-/// misplaced.
+/// Plans of one field that look right in each part: a V among 64 positions, a V within a mark; as many digits as there may be, or one
+/// more; marks, drifts and punched digits misplaced.
 fn single(random: &mut Random) -> Vec<u8> {
     let full: Vec<u8> = [vec![0], vec![10; 63]].concat();
     let v_in_64 = random.pick(&[0, 1, 63, 64, 65]);
     let punched = random.pick(&[15, 16, 17]);
-    let (v, kind, positions): (u8, u8, Vec<u8>) = match random.below(28) {
+    let most = Picture::MOST_DIGITS;
+    let digits = random.pick(&[most - 2, most - 1, most, most, most + 1, most + 1]);
+    let (v, kind, positions): (u8, u8, Vec<u8>) = match random.below(30) {
         0..=2 => (v_in_64, 0, full),
         3 => (random.below(4) as u8, 0, vec![0, 11, 12]),
         4 => (random.below(4) as u8, 0, vec![0, 13, 14]),
@@ -74,8 +77,8 @@ fn single(random: &mut Random) -> Vec<u8> {
         10 => (3, 3, vec![3, 2, 1]),
         11 => (3, 0, vec![0, 5, 5]),
         12 => (random.below(4) as u8, 1, vec![1, 1, 0]),
-        13 => (16, 0, vec![0; 16]),
-        14 => (random.below(17) as u8, 6, [vec![2], vec![1; 15]].concat()),
+        13 => (random.below(most + 2) as u8, 0, vec![0; digits]),
+        14 => (random.below(most + 3) as u8, 6, [vec![2], vec![1; digits]].concat()),
         15 => (random.between(1, 3) as u8, 0, vec![0, 11, random.pick(&[12, 17, 17])]),
         16 => (2, 0, vec![0, random.pick(&[12, 17])]),
         17 => (3, 0, vec![punched, 11, 12]),
@@ -86,8 +89,9 @@ fn single(random: &mut Random) -> Vec<u8> {
         22 => (random.below(3) as u8, random.below(7) as u8, vec![punched, 1]),
         23 => (random.below(4) as u8, random.below(7) as u8, vec![2, 1, punched]),
         24 => (random.below(3) as u8, random.below(7) as u8, vec![0, random.between(15, 18) as u8]),
-        25 => (random.below(17) as u8, 0, [vec![0; random.between(13, 15)], vec![punched]].concat()),
+        25 => (random.below(most + 2) as u8, 0, [vec![0; digits - 1], vec![punched]].concat()),
         26 => (v_in_64, 0, [vec![10; 63], vec![punched]].concat()),
+        27 | 28 => (random.below(most + 2) as u8, random.between(1, 2) as u8, vec![1; digits]),
         _ => (2, 0, vec![11, 12]),
     };
     let n = positions.len() as u8;

@@ -5,8 +5,9 @@ use crate::collector;
 use crate::rules_of_shape::Picture;
 use crate::text_to_symbols::Symbol;
 
-const LIMIT: i64 = 1_000_000_000_000_000;
-const EDGE_SCALES: &[u64] = &[0, 1, 2, 7, 14, 15, 15, 16, 17, 255, 256, 65_536, u64::MAX];
+const LIMIT: i64 = 10i64.pow(Picture::MOST_DIGITS as u32);
+const MOST_SCALE: u64 = Picture::MOST_DIGITS as u64;
+const EDGE_SCALES: &[u64] = &[0, 1, 2, 7, 15, 16, 17, 17, 18, 18, 18, 19, 19, 20, 255, 256, 65_536, u64::MAX];
 
 /// A value for a picture, fitting in most cases.
 pub fn for_picture(random: &mut Random, picture: &Picture) -> (i64, u64) {
@@ -15,7 +16,7 @@ pub fn for_picture(random: &mut Random, picture: &Picture) -> (i64, u64) {
         0 | 1 => at_the_edges(random),
         2 | 3 => cut_to_zero(random, f),
         4 => (beyond(random, picture), f),
-        5 => (magnitude(random, picture.digits.len()), random.below(16) as u64),
+        5 => (magnitude(random, picture.digits.len()), scale(random)),
         6 => (-magnitude(random, picture.digits.len()), f),
         7..=12 => (fitting(random, picture), f),
         _ => {
@@ -43,7 +44,7 @@ pub fn fitting(random: &mut Random, picture: &Picture) -> i64 {
 
 /// A value of any picture, at the edges of the ranges.
 pub fn at_the_edges(random: &mut Random) -> (i64, u64) {
-    let power = power(random.below(16));
+    let power = power(random.below(Picture::MOST_DIGITS + 1));
     let m = random.pick(&[0, 1, power - 1, power, power + 1, LIMIT - 1, LIMIT, LIMIT + 1, i64::MAX]);
     let m = match random.below(12) {
         0 => i64::MIN,
@@ -52,8 +53,17 @@ pub fn at_the_edges(random: &mut Random) -> (i64, u64) {
         3..=6 => -m,
         _ => m,
     };
-    let q = if random.percent(50) { random.below(16) as u64 } else { random.pick(EDGE_SCALES) };
+    let q = if random.percent(50) { scale(random) } else { random.pick(EDGE_SCALES) };
     (m, q)
+}
+
+/// A scale in its range, often at the ends of it.
+fn scale(random: &mut Random) -> u64 {
+    if random.percent(30) {
+        random.pick(&[0, MOST_SCALE - 1, MOST_SCALE])
+    } else {
+        random.below(Picture::MOST_DIGITS + 1) as u64
+    }
 }
 
 /// A number below 10 to the `digits`.
@@ -97,7 +107,7 @@ fn of_digits(random: &mut Random, digits: usize) -> i64 {
 
 /// A negative value, most times, whose magnitude the cut at scale f leaves zero.
 fn cut_to_zero(random: &mut Random, f: u64) -> (i64, u64) {
-    let q = (f + 1 + random.below(4) as u64).min(15);
+    let q = (f + 1 + random.pick(&[0, 1, 2, 3, MOST_SCALE])).min(MOST_SCALE);
     let below = power(q.saturating_sub(f) as usize);
     let m = random.pick(&[below - 1, below / 2, 1]);
     (if random.percent(80) { -m } else { m }, q)
@@ -116,7 +126,7 @@ fn beyond(random: &mut Random, picture: &Picture) -> i64 {
 
 /// A value at another scale that is cut to M at scale f, or to less where the scale is smaller than f.
 fn rescaled(random: &mut Random, m: i64, f: u64) -> (i64, u64) {
-    let q = random.below(16) as u64;
+    let q = scale(random);
     if q < f {
         return (m / power((f - q) as usize), q);
     }
@@ -137,7 +147,7 @@ pub fn row(random: &mut Random, pictures: &[Picture]) -> Vec<u8> {
             let k = random.below(numbers.len());
             numbers[k] = match random.below(3) {
                 0 => beyond(random, &pictures[k]),
-                1 => random.pick(&[LIMIT, -LIMIT, i64::MIN, i64::MAX, LIMIT - 1, 1 - LIMIT]),
+                1 => random.pick(&[LIMIT, -LIMIT, LIMIT + 1, -1 - LIMIT, i64::MIN, i64::MAX, LIMIT - 1, 1 - LIMIT]),
                 _ => numbers[k].wrapping_neg(),
             };
         }
