@@ -4,14 +4,14 @@
 use crate::field::{edit_field, POWER, POWERS};
 use crate::judge::{judge, Counts};
 use crate::plan::{Field, Plan};
-use crate::{refusal, success, LENGTH, PLAN, RECORD, ROOM, SIZE, VALUE};
+use crate::{refusal, success, LENGTH, MOST_DIGITS, PLAN, RECORD, ROOM, SIZE, VALUE};
 use std::mem::MaybeUninit;
 use std::ptr;
 
 /// The characters of a record, each written before it is read.
 pub type Room = [MaybeUninit<u8>; RECORD];
 
-const LIMIT: u64 = POWERS[15];
+const LIMIT: u64 = POWERS[MOST_DIGITS as usize];
 
 /// Edits a row by a plan. Refusals in order: PLAN, LENGTH, the first VALUE or SIZE, ROOM; only then is the record written.
 pub fn edit(plan: &[u8], row: &[u8], record: &mut [u8]) -> u64 {
@@ -59,7 +59,7 @@ pub fn edit(plan: &[u8], row: &[u8], record: &mut [u8]) -> u64 {
 #[inline(always)]
 pub unsafe fn edit_one(field: Field, counts: &Counts, m: i64, k: usize, out: *mut u8) -> u64 {
     let t = m.unsigned_abs();
-    let fits = (t < POWER[(counts.digits & 15) as usize]) & ((m >= 0) | counts.signed);
+    let fits = (t < *POWER.get_unchecked(counts.digits as usize)) & ((m >= 0) | counts.signed);
     if fits {
         edit_field(field, counts, m, out);
         0

@@ -7,17 +7,17 @@ use crate::plan::Field;
 use std::mem::MaybeUninit;
 use std::ptr;
 
-/// Powers of ten, for constants and in memory.
-pub const POWERS: [u64; 16] = {
-    let mut powers = [1; 16];
+/// The powers of ten that 64 bits hold, to that of MOST_DIGITS and past it, for constants and in memory.
+pub const POWERS: [u64; 20] = {
+    let mut powers = [1; 20];
     let mut k = 1;
-    while k < 16 {
+    while k < 20 {
         powers[k] = powers[k - 1] * 10;
         k += 1;
     }
     powers
 };
-pub static POWER: [u64; 16] = POWERS;
+pub static POWER: [u64; 20] = POWERS;
 
 /// Edits a value that fits.
 ///
@@ -86,31 +86,41 @@ unsafe fn punch(field: Field, m: i64, out: *mut u8) {
     }
 }
 
-/// How many digits a number below 10^15 has; 1 for 0.
+/// How many digits a number has; 1 for 0.
 #[inline(always)]
 fn length_of(t: u64) -> u32 {
     let bits = 64 - (t | 1).leading_zeros();
-    let low = (bits * 1233) >> 12; // log2 to log10, from below
-    low + (t >= POWER[(low & 15) as usize]) as u32
+    let low = (bits * 1233) >> 12; // log2 to log10, from below: 19 at most
+    low + (t >= POWER[low as usize]) as u32
 }
 
-/// The address of the first of so many digits of a number, with the fill for the first `cut` of them and for the places before.
+/// Room for digits: 24 bytes to spare, then three words of eight digits.
+type Text = [u8; 48];
+
+/// The address of the first of so many digits of a number, with the fill for the first `cut` of them and for the place before.
 ///
 /// # Safety
-/// The text has 32 bytes: 16 to spare, then 16 for at most 15 digits; the first eight of `hidden` are fill.
+/// The number has no more digits, which are MOST_DIGITS at most, and they are not all cut; the first eight of `hidden` are fill.
 #[inline(always)]
-unsafe fn digits_of(t: u64, digits: u32, cut: usize, hidden: *const u8, text: &mut MaybeUninit<[u8; 32]>) -> *const u8 {
+unsafe fn digits_of(t: u64, digits: u32, cut: usize, hidden: *const u8, text: &mut MaybeUninit<Text>) -> *const u8 {
     const ZEROS: u64 = u64::from_ne_bytes([b'0'; 8]);
-    const HALF: u64 = POWERS[8];
     let text = text.as_mut_ptr() as *mut u8;
     let fills = ptr::read_unaligned(hidden as *const u64);
     let mut low = t;
     if digits > 8 {
-        low = t % HALF;
-        store(text.add(16), eight_digits(t / HALF) | ZEROS);
+        let mut high = t / POWERS[8];
+        low = t % POWERS[8];
+        if digits > 16 {
+            let top = t / POWERS[16];
+            high -= top * POWERS[8];
+            store(text.add(24), two_digits(top) << 48 | ZEROS);
+            // here up to 18 bytes take the fill, more than the 16 below; these come before them
+            store(text.add(24 - digits as usize + cut), fills);
+        }
+        store(text.add(32), eight_digits(high) | ZEROS);
     }
-    store(text.add(24), eight_digits(low) | ZEROS);
-    let start = text.add(32 - digits as usize);
+    store(text.add(40), eight_digits(low) | ZEROS);
+    let start = text.add(48 - digits as usize);
     store(start.add(cut).sub(8), fills);
     store(start.add(cut).sub(16), fills);
     start
@@ -122,7 +132,14 @@ unsafe fn store(to: *mut u8, word: u64) {
     ptr::write_unaligned(to as *mut u64, word.to_le())
 }
 
-/// The eight digits of a number below 10^8, a byte each, the first in the lowest.
+/// The two digits of a number below 100, a byte each, the first in the lowest.
+#[inline(always)]
+fn two_digits(t: u64) -> u64 {
+    let tens = (t * 103) >> 10;
+    tens | (t - 10 * tens) << 8
+}
+
+/// The eight digits of a number below 10^8, likewise.
 #[inline(always)]
 fn eight_digits(t: u64) -> u64 {
     let fours = (t / 10_000) | (t % 10_000) << 32;

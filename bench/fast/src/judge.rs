@@ -2,6 +2,7 @@
 
 use crate::plan::{Field, ROLES};
 use crate::shape::{self, step};
+use crate::MOST_DIGITS;
 
 /// What editing asks of a field's digits.
 #[derive(Clone, Copy)]
@@ -16,14 +17,14 @@ pub struct Counts {
     pub rare: bool,
 }
 
-/// The counts of a field, and whether it is good: its shape is right, and it has 15 digits at most.
+/// The counts of a field, and whether it is good: its shape is right, and it has MOST_DIGITS at most.
 ///
 /// # Safety
 /// The field's roles are memory of its length, each role low, and V is not past them.
 #[inline(always)]
 pub unsafe fn judge(field: Field) -> (Counts, bool) {
     let (counts, right) = counted(field);
-    (counts, right & (counts.digits <= 15))
+    (counts, right & (counts.digits <= MOST_DIGITS))
 }
 
 /// The counts of a field, and whether its shape is right, which no shape without a digit is.

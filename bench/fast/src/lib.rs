@@ -25,6 +25,9 @@ pub use read::read as plan_read;
 const FIELDS: usize = 32;
 const RECORD: usize = 2048;
 
+/// The most digits of a picture. A value has no more.
+const MOST_DIGITS: u32 = 18;
+
 // The numbers that come back.
 const TEXT: u64 = 1;
 const SYMBOL: u64 = 2;

@@ -2,7 +2,7 @@
 
 use crate::judge::counted;
 use crate::plan::Field;
-use crate::{DIGITS, LONG, SHAPE, SYMBOL, TEXT};
+use crate::{DIGITS, LONG, MOST_DIGITS, SHAPE, SYMBOL, TEXT};
 
 // The symbols of a text: 0 is none; static symbols, insertions, marks and punched digits are one more than their role.
 const NINE: u8 = 1;
@@ -185,7 +185,7 @@ unsafe fn verdict(symbols: &Symbols, field: Field) -> Result<(), u64> {
     }
     if !right {
         Err(SHAPE)
-    } else if counts.digits > 15 {
+    } else if counts.digits > MOST_DIGITS {
         Err(DIGITS)
     } else {
         Ok(())

@@ -6,7 +6,7 @@ use crate::judge::judge;
 use crate::look::{self, NEGATIVE, PRINTING};
 use crate::plan::{Field, Plan, ROLES};
 use crate::shape;
-use crate::{refusal, success, CONVERSION, FIELDS, LENGTH, PLAN, ROOM};
+use crate::{refusal, success, CONVERSION, FIELDS, LENGTH, MOST_DIGITS, PLAN, ROOM};
 use std::mem::MaybeUninit;
 use std::ptr;
 
@@ -86,6 +86,7 @@ static TEN: [u64; ROLES] = {
 pub struct Walk {
     shape: usize,
     look: usize,
+    /// It wraps only where the field isn't good or the look is wrong.
     value: u64,
     /// The sum of TEN.
     tens: u64,
@@ -139,7 +140,7 @@ impl Walk {
     /// The walk is over the field.
     #[inline(always)]
     unsafe fn good(&self, n: usize) -> bool {
-        (shape::end(self.shape) != 0) & (self.tens - n as u64 <= 9 * 15)
+        (shape::end(self.shape) != 0) & (self.tens - n as u64 <= 9 * MOST_DIGITS as u64)
     }
 
     /// The number of the field, if some value edits to it.

@@ -14,6 +14,8 @@ const BYTES: [u8; 29] =
 /// Marks, punched signs, and B where it can be hidden, which chance alone gives too seldom.
 const OFTEN: [&str; 12] =
     ["ZZ9CR", "9V9DB", "$$9V.99CR", "**DB", "9,CR", "ZZT", "9V9I", "$$R.V9", "T9", "**B**", "B*BDB", "-B-BV9"];
+/// The most digits, beside a position that can become one more.
+const FULL: [&str; 4] = ["(9)9,(9)9", "(18)*B", "(10)$V.(9)$", "$(17)9T"];
 
 #[test]
 fn every_byte() {
@@ -38,12 +40,14 @@ fn every_byte() {
     assert!(good > 20 * PLANS && bad > 100 * PLANS, "{good} good, {bad} bad");
 }
 
-/// The plan of one to three pictures, those of OFTEN among them.
+/// The plan of one to three pictures, those of OFTEN and FULL among them.
 fn short_plan(random: &mut Random) -> Vec<u8> {
     loop {
         let mut texts: Vec<Vec<u8>> = (0..random.between(1, 3)).map(|_| pictures::accepted(random)).collect();
         if random.percent(30) {
             texts[0] = random.pick(&OFTEN).into();
+        } else if random.percent(20) {
+            texts[0] = random.pick(&FULL).into();
         }
         let pictures: Result<Vec<Picture>, _> = texts.iter().map(|text| Picture::of(text)).collect();
         let plan = plan_of(&pictures.expect("accepted pictures"));

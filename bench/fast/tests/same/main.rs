@@ -1,8 +1,9 @@
 //! The fast Rust held to the second program: the same answer and the same lent bytes on stated examples, on all small texts and
-//! plans, on damaged plans and on random cases.
+//! plans, on every number of digits, on damaged plans and on random cases.
 
 mod cases;
 mod damaged;
+mod digits;
 mod inner;
 mod random;
 mod small;

@@ -11,7 +11,7 @@ use std::collections::HashSet;
 #[test]
 fn texts() {
     let pieces = [
-        "9", "Z", "*", "V", ",", "B", "S", "+", "-", "$", "CR", "DB", "(2)", "(16)", "D", "(63)", "T", "I", "R", "(1)",
+        "9", "Z", "*", "V", ",", "B", "S", "+", "-", "$", "CR", "DB", "(2)", "(18)", "D", "(63)", "T", "I", "R", "(1)",
     ];
     let mut accepted = 0;
     for pieces_there in 0..=4 {
