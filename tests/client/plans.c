@@ -37,17 +37,17 @@ static const struct stated stated[] = {
     {"ZZ9V.99;-9;", 2, 8, {{0, 6, 2}, {6, 2, 0}}},
     {"ZZZV.ZZ;ZZZ.VZZ;", 2, 12, {{0, 6, 2}, {6, 6, 2}}},
     {"S9V9,9B9/9;**V**DB;---V.--;9;", 4, 22, {{0, 9, 4}, {9, 6, 2}, {15, 6, 2}, {21, 1, 0}}},
-    {"V(15)9;(15)9(49)/;(14)9V9(48)/;", 3, 142, {{0, 15, 15}, {15, 64, 0}, {79, 63, 1}}},
+    {"V(18)9;(18)9(46)/;(17)9V9(45)/;", 3, 145, {{0, 18, 18}, {18, 64, 0}, {82, 63, 1}}},
     {"ZZ,ZZ9V.99;$$,$$9V.99CR;(3)Z9;9999V9T;", 4, 30, {{0, 9, 2}, {9, 11, 2}, {20, 4, 0}, {24, 6, 2}}},
     {"9VT;9VI;9VR;9VCR;", 4, 9, {{0, 2, 1}, {2, 2, 1}, {4, 2, 1}, {6, 3, 0}}},
-    {"TV9;V9I9;ZZV.R9;(13)9VT/9;", 4, 26, {{0, 2, 1}, {2, 3, 3}, {5, 5, 2}, {10, 16, 2}}},
+    {"TV9;V9I9;ZZV.R9;(16)9VT/9;", 4, 29, {{0, 2, 1}, {2, 3, 3}, {5, 5, 2}, {10, 19, 2}}},
 };
 
 static const char *const pictures[] = {
     "9",        "999",   "ZZ9",   "ZZZ",      "Z9V.9",     "ZZ9V.99",  "ZZZV.ZZ",   "ZZZ.VZZ",      "***9CR",        "**B**", "$**CR",   "$$,$$9",
-    "$$9V.99",  "$V$",   "(16)$", "---9",     "+++V.++",   "SSSVSS",   "S9V9",      "9V9-",         "$999V.999",     "V9",    "V(15)9",  "V.(3)9",
-    "9999V9T",  "T",     "ZZI",   "9R",       "V.9R",      "99V9I9",   "$$9V.R",    "V(14)9T",      "(13)9VI9",      "9VT",   "(1)T9",   "**I",
-    "9V",       "9VCR",  "9V-",   "Z(5)9VDB", "(3)9/V/99", "ZZ,ZZ9",   ",ZZ",       "9B9B9V9B9B9B", "(15)9(49)/",    "B9V9B", "*V*",     "-(14)9V9",
+    "$$9V.99",  "$V$",   "(19)$", "---9",     "+++V.++",   "SSSVSS",   "S9V9",      "9V9-",         "$999V.999",     "V9",    "V(18)9",  "V.(3)9",
+    "9999V9T",  "T",     "ZZI",   "9R",       "V.9R",      "99V9I9",   "$$9V.R",    "V(17)9T",      "(16)9VI9",      "9VT",   "(1)T9",   "**I",
+    "9V",       "9VCR",  "9V-",   "Z(5)9VDB", "(3)9/V/99", "ZZ,ZZ9",   ",ZZ",       "9B9B9V9B9B9B", "(18)9(46)/",    "B9V9B", "*V*",     "-(17)9V9",
 };
 
 static const char *const names[] = {
@@ -110,7 +110,7 @@ static size_t scale_of(const char *picture)
 {
     const uint8_t *text = (const uint8_t *)picture;
     uint8_t field[MORVENKA_FIELD_MAX];
-    for (uint64_t q = 0; q <= 15; q++) {
+    for (uint64_t q = 0; q <= 18; q++) {
         int64_t m = 0;
         uint64_t answer = morvenka_edit(text, strlen(picture), 1, q, field, sizeof field);
         if (morvenka_number(answer) == MORVENKA_OK)
@@ -150,7 +150,7 @@ static void by_large(void)
     uint8_t plan[MORVENKA_PLAN_MAX];
     char layout[1024] = "";
     for (size_t field = 1; field <= MOST; field++)
-        strcat(layout, "(14)9V9(48)B;");
+        strcat(layout, "(17)9V9(45)B;");
     size_t length = compile(layout, plan);
     same("a large plan: its record length", morvenka_plan_record(plan, length), 2016);
     for (size_t field = 1; field <= MOST; field++) {

@@ -32,7 +32,7 @@
 
 #define COUNT(array) (sizeof(array) / sizeof((array)[0]))
 
-enum { STACK = 1 << 15, STEP = 64, FIELDS = 32, TEXT_MAX = 128, LAYOUT_MAX = 4128, POSITIONS = 64, MOST_DIGITS = 15 };
+enum { STACK = 1 << 15, STEP = 64, FIELDS = 32, TEXT_MAX = 128, LAYOUT_MAX = 4128, POSITIONS = 64, MOST_DIGITS = 18 };
 
 enum which { CHECK, EDIT, READ, COMPILE, PLAN_READ, PLAN_EDIT, KNOWN, CALLS };
 
@@ -136,11 +136,11 @@ static uint64_t known(const uint8_t *a, size_t b)
 
 static const struct call calls[CALLS] = {
     [CHECK] = {"morvenka_check", BY_TEXT, {.by_text = morvenka_check}, BOUND(1640, 1744), 0},
-    [EDIT] = {"morvenka_edit", BY_VALUE, {.by_value = morvenka_edit}, BOUND(1896, 1984), BOUND(576, 528)},
+    [EDIT] = {"morvenka_edit", BY_VALUE, {.by_value = morvenka_edit}, BOUND(1928, 2016), BOUND(608, 560)},
     [READ] = {"morvenka_read", BY_THREE, {.by_three = morvenka_read}, BOUND(1704, 1824), 0},
     [COMPILE] = {"morvenka_compile", BY_TWO, {.by_two = morvenka_compile}, BOUND(1768, 1904), 0},
     [PLAN_READ] = {"morvenka_plan_read", BY_THREE, {.by_three = morvenka_plan_read}, BOUND(1208, 1152), 0},
-    [PLAN_EDIT] = {"morvenka_plan_edit", BY_THREE, {.by_three = morvenka_plan_edit}, BOUND(1064, 1040), BOUND(656, 640)},
+    [PLAN_EDIT] = {"morvenka_plan_edit", BY_THREE, {.by_three = morvenka_plan_edit}, BOUND(1080, 1072), BOUND(672, 672)},
     [KNOWN] = {"a call that is known", BY_TEXT, {.by_text = known}, KNOWN_ROOM + KNOWN_BESIDE, 0},
 };
 
@@ -337,11 +337,11 @@ static const struct picture pictures[] = {
     {"$$,$$9", 4, 0, 0},           {"$$B$$9", 4, 0, 0},           {"---9", 3, 0, 1},             {"+++V.++", 4, 2, 1},
     {"SSSVSS", 4, 2, 1},           {"S9V9", 2, 1, 1},             {"9V9-", 2, 1, 1},             {"$999V.999", 6, 3, 0},
     {"9999V9T", 6, 2, 1},          {"ZZI", 3, 0, 1},              {"$$9V.R", 3, 1, 1},           {"**I", 3, 0, 1},
-    {"9B9B9V9B9B9B", 6, 3, 0},     {"V(15)9", 15, 15, 0},         {"V(14)9T", 15, 15, 1},        {"(13)9VI9", 15, 2, 1},
-    {"(16)$", 15, 0, 0},           {"-(14)9V9", 15, 1, 1},        {"(14)9(49)BT", 15, 0, 1},     {"(14)9(48)/VR", 15, 1, 1},
-    {"(15)9(49)/", 15, 0, 0},      {"(15)Z(49)B", 15, 0, 0},      {"(15)*V(48)B", 15, 0, 0},     {"(16)-(48),", 15, 0, 1},
-    {"(8)+(47)BV(8)+", 15, 8, 1},  {"S(15)9(48)/", 15, 0, 1},     {"(15)Z(47)BCR", 15, 0, 1},    {"$(15)*(46),DB", 15, 0, 1},
-    {"$(14)Z(47)/V9", 15, 1, 0},   {"(8)ZV(48).(7)Z", 15, 7, 0},
+    {"9B9B9V9B9B9B", 6, 3, 0},     {"V(18)9", 18, 18, 0},         {"V(17)9T", 18, 18, 1},        {"(16)9VI9", 18, 2, 1},
+    {"(19)$", 18, 0, 0},           {"-(17)9V9", 18, 1, 1},        {"(17)9(46)BT", 18, 0, 1},     {"(17)9(45)/VR", 18, 1, 1},
+    {"(18)9(46)/", 18, 0, 0},      {"(18)Z(46)B", 18, 0, 0},      {"(18)*V(45)B", 18, 0, 0},     {"(19)-(45),", 18, 0, 1},
+    {"(10)+(44)BV(9)+", 18, 9, 1}, {"S(18)9(45)/", 18, 0, 1},     {"(18)Z(44)BCR", 18, 0, 1},    {"$(18)*(43),DB", 18, 0, 1},
+    {"$(17)Z(44)/V9", 18, 1, 0},   {"(9)ZV(45).(9)Z", 18, 9, 0},  {"9V(17)9(45)/", 18, 17, 0},   {"S(9)9V(44).(9)9", 18, 9, 1},
 };
 
 /* The largest number of so many digits. */
@@ -397,7 +397,7 @@ static void one_picture(const struct picture *p)
 /* The symbols that are digits by themselves, and those that drift. */
 static const char symbols[] = "9Z*$-+S";
 
-/* A picture of n positions: the symbol, 15 digits of it where n allows, and in the midst of them the insertion. */
+/* A picture of n positions: the symbol, MOST_DIGITS of it where n allows, and in the midst of them the insertion. */
 static struct picture sized(char text[TEXT_MAX + 1], size_t n, char symbol, char insertion)
 {
     int drifts = strchr("$-+S", symbol) != NULL;
@@ -419,9 +419,9 @@ static const struct {
     {"(63)9CR", MORVENKA_LONG},        {"9V9V9", MORVENKA_SHAPE},         {"++$$9", MORVENKA_SHAPE},
     {"Z*9", MORVENKA_SHAPE},           {"9Z", MORVENKA_SHAPE},            {"ZVZ9", MORVENKA_SHAPE},
     {"S9CR", MORVENKA_SHAPE},          {"TT", MORVENKA_SHAPE},            {"9$9", MORVENKA_SHAPE},
-    {"V$$9", MORVENKA_SHAPE},          {"(32)+(32)-", MORVENKA_SHAPE},    {"(15)9(48)/Z", MORVENKA_SHAPE},
+    {"V$$9", MORVENKA_SHAPE},          {"(32)+(32)-", MORVENKA_SHAPE},    {"(18)9(45)/Z", MORVENKA_SHAPE},
     {"S$", MORVENKA_DIGITS},           {"(64)B", MORVENKA_DIGITS},        {"(64)9", MORVENKA_DIGITS},
-    {"(64)-", MORVENKA_DIGITS},
+    {"(64)-", MORVENKA_DIGITS},        {"(19)9(45)/", MORVENKA_DIGITS},   {"(20)$(44)B", MORVENKA_DIGITS},
 };
 
 static void bad_picture(const char *text, unsigned number)
@@ -555,7 +555,7 @@ static void bad_layout(size_t good, const char *bad, unsigned number)
     char text[LAYOUT_MAX + 1] = "";
     uint8_t plan[MORVENKA_PLAN_MAX];
     for (size_t k = 0; k < good; k++)
-        strcat(text, "(15)Z(47)BCR;");
+        strcat(text, "(18)Z(44)BCR;");
     strcat(strcat(text, bad), ";");
     compile(text, (struct lent){plan, sizeof plan}, number, (unsigned)good + 1);
 }
