@@ -10,7 +10,7 @@
  *   picture  an ASCII text of 1 to 128 bytes, such as ZZ9V.99 or $$,$$9 or (3)9CR or 9999V9T. It has no zero byte at its end.
  *   n        the characters of the picture's field, 1 to 64: its symbols other than V, with the factors written out.
  *   f        the scale of the field: the number of its digits after V, 0 without V.
- *   value    M / 10^q, by a whole number M of 15 digits at most and a scale q of 0 to 15.
+ *   value    M / 10^q, by a whole number M of 18 digits at most and a scale q of 0 to 18.
  *   layout   a line of pictures with a semicolon behind each: ZZ9V.99;-9; Up to 32 pictures and 4,128 bytes.
  *   record   the fields of a layout, one after another with nothing between: at most 2,048 characters.
  *   plan     a layout compiled: plain bytes to be used for any number of records, and to be kept or sent as they are.
@@ -56,10 +56,10 @@ extern "C" {
 #endif
 
 /* The version of this header and its library, as text and as numbers; docs/COLLECTOR.md says what changes which number. */
-#define MORVENKA_VERSION "2.0.1"
+#define MORVENKA_VERSION "2.1.0"
 #define MORVENKA_VERSION_MAJOR 2
-#define MORVENKA_VERSION_MINOR 0
-#define MORVENKA_VERSION_PATCH 1
+#define MORVENKA_VERSION_MINOR 1
+#define MORVENKA_VERSION_PATCH 0
 
 /* The numbers that come back. */
 enum morvenka_numbers {
@@ -68,8 +68,8 @@ enum morvenka_numbers {
     MORVENKA_SYMBOL = 2,      /* the picture has a byte or a factor that isn't allowed */
     MORVENKA_LONG = 3,        /* the picture has over 64 symbols, V counted, with the factors written out */
     MORVENKA_SHAPE = 4,       /* the picture's symbols don't stand together like this */
-    MORVENKA_DIGITS = 5,      /* the picture has no digit, or over 15 */
-    MORVENKA_VALUE = 6,       /* M has over 15 digits, or q is over 15 */
+    MORVENKA_DIGITS = 5,      /* the picture has no digit, or over 18 */
+    MORVENKA_VALUE = 6,       /* M has over 18 digits, or q is over 18 */
     MORVENKA_ROOM = 7,        /* the lent run is shorter than needed */
     MORVENKA_SIZE = 8,        /* too large for the digits before V; or negative, not cut to zero, with no sign in the picture */
     MORVENKA_LENGTH = 9,      /* the field or record has another length; for editing, the row has not eight bytes a field */

@@ -32,7 +32,7 @@ static int succeeded(const char *what, uint64_t answer)
     return 0;
 }
 
-/* Prints a number of a row with its point: 125050 at scale 2 is 1250.50, and -5 is -0.05. It has 15 digits at most. */
+/* Prints a number of a row with its point: 125050 at scale 2 is 1250.50, and -5 is -0.05. It has 18 digits at most. */
 static void print_amount(int64_t m, size_t scale)
 {
     unsigned long long digits = (unsigned long long)(m < 0 ? -m : m), unit = 1;
