@@ -73,7 +73,7 @@ ran-length i vs (some m ∷ os) = ran-length (i + 1) (set vs i m) os ∙ length-
 ran-all : (vs : List ℤ) (os : List (Option ℤ)) → length os ≤ length vs → ranFrom 0 vs os .bad ≡ 0 → take (length os) (ranFrom 0 vs os .values) ≡ amounts os
 ran-all vs os l h = rw zero-add at (ran-values 0 vs os (omega arith) h)
 
-length-all : (φs : List Form) (rec : List ℕ) → length (readAll φs rec) ≡ length φs
+pub length-all : (φs : List Form) (rec : List ℕ) → length (readAll φs rec) ≡ length φs
 unfolding readAll
 length-all [] rec = refl
 length-all (φ ∷ φs) rec = ap suc (length-all φs (drop (size φ) rec))

@@ -12,6 +12,10 @@ use Rattle.rules.specs.Layout.{recordLength}
 use Rattle.rules.specs.Answers.{recordAnswer, rowAfter}
 use Rattle.rules.specs.PlanBytes.{formsIn, isPlan}
 use Rattle.rules.specs.Candidate.{readAll}
+use Rattle.totals.specs.declared.Sheet.{Sheet}
+use Rattle.totals.specs.declared.Added.{Added}
+use Rattle.totals.specs.Batch.{recordAt}
+use Rattle.totals.specs.Totals.{batchAdded, recordAdded}
 
 -- a plan, and a record of its length
 pub record Due (b rec : List ℕ) : Type 0 where
@@ -35,3 +39,10 @@ planAnswer b rec row = recordAnswer (formsIn b) rec (length row) (readAll (forms
 
 unfoldable pub planRow : List ℕ → List ℕ → List ℤ → List ℤ
 planRow b rec row = rowAfter (formsIn b) rec row (readAll (formsIn b) rec)
+
+-- and of a record added to a sheet, alone and at a place of a batch
+unfoldable pub planAdded : List ℕ → List ℕ → Sheet → Added
+planAdded b rec s = recordAdded (formsIn b) rec s (readAll (formsIn b) rec)
+
+unfoldable pub planPlaced : List ℕ → List ℕ → ℕ → Sheet → Added
+planPlaced b batch at s = batchAdded (formsIn b) batch at s (readAll (formsIn b) (recordAt (formsIn b) batch at))

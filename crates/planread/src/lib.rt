@@ -1,5 +1,6 @@
 // A record read by a plan into a row: one value a field, or the first refusal in the order of RULES 6.6. The call takes every input and does its
-// own checking.
+// own checking. The records of a batch are read here too, since what asks for a plan is offered to no other crate.
+pub mod batch; // batch.rt: the records of a batch, added to a totals sheet
 mod run; // run.rt: the fields of a record, one after the other
 
 use answer::refused;
@@ -28,7 +29,7 @@ fn copy_row(values: &[i64], count: usize, row: &mut [i64])
 
 // By bytes that are a plan: LENGTH, ROOM, then the first field with CONVERSION. The head is the count byte, three bytes a field and the
 // two bytes of the positions' count; behind it the plan has one byte for each character of a record.
-fn read_record(plan: &[u8], record: &[u8], row: &mut [i64]) -> Answer
+pub(crate) fn read_record(plan: &[u8], record: &[u8], row: &mut [i64]) -> Answer
     requires { ⌜ isPlan (now plan) ≡ true ⌝ }
     ensures answer { λ r. ⌜ r ≡ planAnswer (now (plan .entry)) (now («record» .entry)) (now (row .entry)) ⌝ }
     ensures memory { λ _. ⌜ now (row .exit) ≡ planRow (now (plan .entry)) (now («record» .entry)) (now (row .entry)) ⌝ }

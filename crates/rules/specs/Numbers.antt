@@ -31,11 +31,12 @@ VALUE = 6
 abbrev pub ROOM : ℕ
 ROOM = 7
 
--- the value doesn't fit the picture
+-- the value doesn't fit the picture, or a sum is too big for the totals
 abbrev pub SIZE : ℕ
 SIZE = 8
 
--- a field or record has another length, or a row to be edited another number of places
+-- a field or record has another length, or a row to be edited another number of places; a batch is too long or ends within a record, or a place in it
+-- is none
 abbrev pub LENGTH : ℕ
 LENGTH = 9
 
@@ -51,9 +52,13 @@ COUNT = 11
 abbrev pub PLAN : ℕ
 PLAN = 12
 
--- more than 65,536 bytes are to be listed
+-- more than 65,536 bytes are to be listed or totalled
 abbrev pub INPUT : ℕ
 INPUT = 13
+
+-- a totals sheet has 9,000 records or more
+abbrev pub FULL : ℕ
+FULL = 14
 
 -- A test that may refuse gives its number, or 0: `when` where what is refused is said, `unless` where what is asked is said.
 abbrev pub when : Bool → ℕ → ℕ

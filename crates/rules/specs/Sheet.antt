@@ -1,4 +1,4 @@
--- RULES 9, the sheet of examples: its lines as data, with what it means that a line holds. A line says what goes in and what comes out in plain numbers
+-- RULES 10, the sheet of examples: its lines as data, with what it means that a line holds. A line says what goes in and what comes out in plain numbers
 -- and texts, by no name of a definition, so that a definition that says something else fails at a line. proofs/Examples.antt proves that all
 -- of them hold: those of which the customers ask a proof as one list with one statement, and the others. The lines of specs/Lines.antt are
 -- of the same kind. Assumes nothing.

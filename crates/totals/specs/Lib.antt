@@ -1,0 +1,5 @@
+pub mod Batch
+pub mod Totals
+pub mod History
+pub mod Steps
+pub mod Lines
