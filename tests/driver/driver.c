@@ -3,12 +3,13 @@
  *
  *     driver [exact] [null] < cases > answers
  *
- * A case line is a call with its arguments, one blank between words, M and Q in decimal, byte runs in lower-case hexadecimal and
- * an empty run as `-`. The last word, but for check, is the content of the lent memory before the call:
+ * A case line is a call with its arguments, one blank between words, M, Q and PLACE in decimal, byte runs in lower-case hexadecimal
+ * and an empty run as `-`. The last word, but for check, is the content of the lent memory before the call:
  *
  *     check TEXT              compile LAYOUT PLAN
  *     edit TEXT M Q OUT       plan_read PLAN RECORD ROW
  *     read TEXT FIELD ROW     plan_edit PLAN ROW RECORD
+ *                             totals_add PLAN BATCH PLACE SHEET
  *
  * An answer line is the call's answer in decimal and the content of the lent memory after the call, `-` if that is empty and for
  * check.
@@ -59,6 +60,7 @@ struct arguments {
     struct run run[MOST_RUNS];
     int64_t m;
     uint64_t q;
+    uint64_t place;
 };
 
 static int exact;
@@ -335,9 +337,14 @@ static uint64_t call_plan_edit(const struct arguments *a)
 {
     return morvenka_plan_edit(RUN(0), RUN(1), RUN(2));
 }
+
+static uint64_t call_totals_add(const struct arguments *a)
+{
+    return morvenka_totals_add(RUN(0), RUN(1), a->place, RUN(2));
+}
 #endif
 
-/* A call by its name, and its words: a run that it may only Read, a run Lent to it, M and Q. */
+/* A call by its name, and its words: a run that it may only Read, a run Lent to it, M, Q and a Place. */
 static const struct call {
     const char *name;
     const char *words;
@@ -350,6 +357,7 @@ static const struct call {
     {"compile", "RL", call_compile},
     {"plan_read", "RRL", call_plan_read},
     {"plan_edit", "RRL", call_plan_edit},
+    {"totals_add", "RRPL", call_totals_add},
 #endif
 };
 
@@ -370,6 +378,8 @@ static size_t take_arguments(struct arguments *a, const char *kinds, const struc
             a->m = signed_number_of(words[k]);
         else if (kinds[k] == 'Q')
             a->q = number_of(words[k], UINT64_MAX);
+        else if (kinds[k] == 'P')
+            a->place = number_of(words[k], UINT64_MAX);
         else
             a->run[runs++] = run_of(words[k]);
     }

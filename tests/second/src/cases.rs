@@ -2,8 +2,8 @@
 //!
 //! A case line is a call with its arguments, one blank between words, byte runs in lower-case hexadecimal and an empty
 //! run as `-`: `check TEXT`, `edit TEXT M Q OUT`, `read TEXT FIELD ROW`, `compile LAYOUT PLAN`,
-//! `plan_read PLAN RECORD ROW`, `plan_edit PLAN ROW RECORD`. The last word (but for `check`) is the content of the lent
-//! memory before the call. M and Q are decimal; rows are raw bytes.
+//! `plan_read PLAN RECORD ROW`, `plan_edit PLAN ROW RECORD`, `totals_add PLAN BATCH PLACE SHEET`. The last word (but for
+//! `check`) is the content of the lent memory before the call. M, Q and PLACE are decimal; rows and sheets are raw bytes.
 //! An answer line is `A MEM`: the packed answer in decimal and the content of the lent memory after the call, `-` if
 //! that is empty and for `check`.
 
@@ -17,6 +17,7 @@ pub enum Case {
     Compile { layout: Vec<u8>, plan: Vec<u8> },
     PlanRead { plan: Vec<u8>, record: Vec<u8>, row: Vec<u8> },
     PlanEdit { plan: Vec<u8>, row: Vec<u8>, record: Vec<u8> },
+    TotalsAdd { plan: Vec<u8>, batch: Vec<u8>, place: u64, sheet: Vec<u8> },
 }
 
 impl Case {
@@ -39,6 +40,10 @@ impl Case {
             ["plan_edit", plan, row, record] => {
                 Some(Case::PlanEdit { plan: unhex(plan)?, row: unhex(row)?, record: unhex(record)? })
             }
+            ["totals_add", plan, batch, place, sheet] => {
+                let place = place.parse().ok()?;
+                Some(Case::TotalsAdd { plan: unhex(plan)?, batch: unhex(batch)?, place, sheet: unhex(sheet)? })
+            }
             _ => None,
         }
     }
@@ -57,6 +62,9 @@ impl Case {
             Case::PlanEdit { plan, row, record } => {
                 format!("plan_edit {} {} {}", hex(plan), hex(row), hex(record))
             }
+            Case::TotalsAdd { plan, batch, place, sheet } => {
+                format!("totals_add {} {} {place} {}", hex(plan), hex(batch), hex(sheet))
+            }
         }
     }
 
@@ -71,6 +79,9 @@ impl Case {
             Case::PlanEdit { plan, row, record } => {
                 Reply::of(record, |record| collector::plan_edit(&plan, &row, record))
             }
+            Case::TotalsAdd { plan, batch, place, sheet } => {
+                Reply::of(sheet, |sheet| collector::totals_add(&plan, &batch, place, sheet))
+            }
         }
     }
 
@@ -82,6 +93,7 @@ impl Case {
             Case::Read { row, .. } | Case::PlanRead { row, .. } => row,
             Case::Compile { plan, .. } => plan,
             Case::PlanEdit { record, .. } => record,
+            Case::TotalsAdd { sheet, .. } => sheet,
         }
     }
 }

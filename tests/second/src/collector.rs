@@ -1,8 +1,13 @@
 //! The calls as a C program sees them: byte runs in, one 64-bit number out, and in a row eight bytes a number, two's complement with
-//! the lowest byte first. Reading a single field is offered in the same form, its value going into a row of one place.
+//! the lowest byte first. Reading a single field is offered in the same form, its value going into a row of one place. A totals sheet
+//! is a run of such numbers too: the count, all sums, all least and all greatest.
 
 use crate::layouts_and_plans;
 use crate::numbers_that_come_back::{Answer, Refusal};
+use crate::totals::{self, Sheet};
+
+/// The bytes of a sheet.
+pub const SHEET_BYTES: usize = 8 * (1 + 3 * Sheet::PLACES);
 
 /// The whole eight-byte numbers of a run; odd bytes at its end are left out.
 pub fn numbers(row: &[u8]) -> Vec<i64> {
@@ -53,4 +58,15 @@ pub fn plan_edit(plan: &[u8], row: &[u8], record: &mut [u8]) -> u64 {
     }
     let why = if layouts_and_plans::is_plan(plan) { Refusal::Length } else { Refusal::Plan };
     Answer::refused(why).packed()
+}
+
+/// Adds to the sheet in the first bytes of a run; the order is PLAN, ROOM, and then that of an addition.
+pub fn totals_add(plan: &[u8], batch: &[u8], place: u64, run: &mut [u8]) -> u64 {
+    let Some(room) = run.get_mut(..SHEET_BYTES) else {
+        let why = if layouts_and_plans::is_plan(plan) { Refusal::Room } else { Refusal::Plan };
+        return Answer::refused(why).packed();
+    };
+    let (sheet, answer) = totals::add(plan, batch, place, Sheet::of(&numbers(room)));
+    room.copy_from_slice(&bytes(&sheet.numbers()));
+    answer.packed()
 }

@@ -4,6 +4,7 @@
 use crate::cases::{Case, Reply};
 use crate::collector;
 use crate::layouts_and_plans::{is_plan, rebuilt_layout};
+use crate::totals::Sheet;
 
 /// At most this many differences are worded.
 const WORDED: usize = 20;
@@ -97,6 +98,11 @@ pub fn worded(case: &Case) -> String {
             let (by, from, into) = (plan_shown(plan), row.len(), record.len());
             format!("plan_edit by {by} row {} of {from} bytes into {into} bytes {}", numbers(row), printable(record))
         }
+        Case::TotalsAdd { plan, batch, place, sheet } => {
+            let (by, from, to) = (plan_shown(plan), batch.len(), sheet.len());
+            let batch = printable(batch);
+            format!("totals_add by {by} at {place} of {from} bytes {batch} to {to} bytes {}", sheet_shown(sheet))
+        }
     }
 }
 
@@ -107,6 +113,7 @@ fn outcome(case: &Case, reply: &Reply) -> String {
         Case::Edit { .. } | Case::PlanEdit { .. } => printable(&reply.memory),
         Case::Compile { .. } => format!("{:?}", reply.memory),
         Case::Read { .. } | Case::PlanRead { .. } => numbers(&reply.memory),
+        Case::TotalsAdd { .. } => sheet_shown(&reply.memory),
     };
     format!("number {number} field {field} length {length} memory {memory}")
 }
@@ -121,6 +128,20 @@ fn plan_shown(plan: &[u8]) -> String {
 fn numbers(row: &[u8]) -> String {
     let odd = &row[row.len() / 8 * 8..];
     format!("{:?} and {odd:?}", collector::numbers(row))
+}
+
+/// A totals sheet by its parts, each without the zeros at its end, with the bytes behind it; a run too short for one as it is.
+fn sheet_shown(run: &[u8]) -> String {
+    let Some((sheet, odd)) = run.split_at_checked(collector::SHEET_BYTES) else {
+        return format!("{run:?}");
+    };
+    let numbers = collector::numbers(sheet);
+    let part = |which: usize| {
+        let part = &numbers[1 + which * Sheet::PLACES..][..Sheet::PLACES];
+        &part[..part.iter().rposition(|&number| number != 0).map_or(0, |last| last + 1)]
+    };
+    let (count, sums, least, greatest) = (numbers[0], part(0), part(1), part(2));
+    format!("count {count} sums {sums:?} least {least:?} greatest {greatest:?} and {odd:?}")
 }
 
 fn printable(bytes: &[u8]) -> String {

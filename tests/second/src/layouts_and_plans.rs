@@ -143,18 +143,26 @@ pub fn plan_read(plan: &[u8], record: &[u8], row: &mut [i64]) -> Answer {
     if row.len() < pictures.len() {
         return Answer::refused(Refusal::Room);
     }
+    match values_of(&pictures, record) {
+        Ok(values) => row[..values.len()].copy_from_slice(&values),
+        Err(refused) => return refused,
+    }
+    Answer::success(pictures.len())
+}
+
+/// The values of a record of the right length, or the answer that refuses its first field without one.
+pub fn values_of(pictures: &[Picture], record: &[u8]) -> Result<Vec<i64>, Answer> {
     let mut values = Vec::new();
     let mut rest = record;
-    for (k, picture) in (1..).zip(&pictures) {
+    for (k, picture) in (1..).zip(pictures) {
         let (field, others) = rest.split_at(picture.n());
         match value_of(picture, field) {
             Some(value) => values.push(value),
-            None => return Answer::refused_at(Refusal::Conversion, k),
+            None => return Err(Answer::refused_at(Refusal::Conversion, k)),
         }
         rest = others;
     }
-    row[..values.len()].copy_from_slice(&values);
-    Answer::success(values.len())
+    Ok(values)
 }
 
 /// Edits a row through a plan into the first bytes of `record`.

@@ -2,7 +2,8 @@
 //!
 //! It is written from the rules alone and shares no code and no definitions with the library it judges. Where the rules leave a
 //! choice of method it takes another than the obvious one: texts are taken apart from the right, fields are read by searching
-//! among all looks a field can have, plans are judged by rebuilding a layout from them, and alignment is done in 128 bits.
+//! among all looks a field can have, plans are judged by rebuilding a layout from them, alignment is done in 128 bits, and totals are
+//! taken from the list of the records accepted.
 //! The modules follow the sections of the rules; `cases`, `make`, `judge` and `sheet_of_examples` serve the comparison.
 #![forbid(unsafe_code)]
 
@@ -18,6 +19,8 @@ pub mod numbers_that_come_back;
 pub mod rules_of_shape;
 pub mod sheet_of_examples;
 pub mod text_to_symbols;
+pub mod totaller;
+pub mod totals;
 pub mod value_to_field;
 
 pub use field_to_value::read;
@@ -25,4 +28,5 @@ pub use layouts_and_plans::{compile, is_plan, plan_edit, plan_read};
 pub use lister::listing;
 pub use numbers_that_come_back::{Answer, Refusal};
 pub use rules_of_shape::check;
+pub use totaller::totalling;
 pub use value_to_field::edit;

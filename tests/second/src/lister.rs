@@ -6,13 +6,21 @@ use crate::rules_of_shape::Picture;
 
 /// The listing of an input.
 pub fn listing(input: &[u8]) -> Vec<u8> {
+    by_layout(input, records)
+}
+
+/// The layout's line, and behind that of an accepted layout what is made of its pictures and the record lines.
+pub fn by_layout(input: &[u8], made: impl Fn(&[Picture], &[&[u8]]) -> Vec<u8>) -> Vec<u8> {
     if input.len() > 65_536 {
         return line(&[0, Refusal::Input.number() as i64, 0]);
     }
     let mut lines = lines_of(input);
     let layout = if lines.is_empty() { &[][..] } else { lines.remove(0) };
     match pictures_of_layout(layout) {
-        Ok(pictures) => records(&pictures, &lines),
+        Ok(pictures) => {
+            let accepted = line(&[0, 0, 0, pictures.len() as i64, record_length(&pictures) as i64]);
+            [accepted, made(&pictures, &lines)].concat()
+        }
         Err(refused) => line(&heads(0, refused)),
     }
 }
@@ -28,7 +36,7 @@ fn lines_of(input: &[u8]) -> Vec<&[u8]> {
 
 fn records(pictures: &[Picture], lines: &[&[u8]]) -> Vec<u8> {
     let plan = plan_of(pictures);
-    let mut out = line(&[0, 0, 0, pictures.len() as i64, record_length(pictures) as i64]);
+    let mut out = Vec::new();
     for (k, record) in (1..).zip(lines) {
         let mut row = vec![0; pictures.len()];
         let answer = plan_read(&plan, record, &mut row);
@@ -41,11 +49,13 @@ fn records(pictures: &[Picture], lines: &[&[u8]]) -> Vec<u8> {
     out
 }
 
-fn heads(k: i64, answer: Answer) -> Vec<i64> {
+/// How the line of an answer begins.
+pub fn heads(k: i64, answer: Answer) -> Vec<i64> {
     vec![k, answer.number as i64, answer.field as i64]
 }
 
-fn line(numbers: &[i64]) -> Vec<u8> {
+/// Numbers as a line of the listing.
+pub fn line(numbers: &[i64]) -> Vec<u8> {
     let words: Vec<String> = numbers.iter().map(i64::to_string).collect();
     format!("{}\n", words.join(",")).into_bytes()
 }

@@ -1,17 +1,18 @@
-//! The command of the second program: it lists records, writes cases, answers them, and judges the answers of a library.
+//! The command of the second program: it lists records and totals them, writes cases, answers them, and judges the answers of a library.
 #![forbid(unsafe_code)]
 
 use second::cases::Case;
 use second::make::{self, random::Random};
-use second::{judge, listing, sheet_of_examples};
+use second::{judge, listing, sheet_of_examples, totalling};
 use std::io::{self, BufRead, Read, Write};
 use std::process::ExitCode;
 
 const USAGE: &str = "\
 usage:
   second list                      the lister: input on stdin, listing on stdout
-  second cases KIND SEED COUNT     write cases; KIND is check, edit, read, compile, plan_read, plan_edit,
-                                   picture (the first three), layout (the other three) or all
+  second total                     the totals program: the lister's input on stdin, refused records and totals on stdout
+  second cases KIND SEED COUNT     write cases; KIND is check, edit, read, compile, plan_read, plan_edit, totals_add,
+                                   picture (the first three), layout (the next three) or all
   second answer                    answer the cases on stdin
   second judge CASES ANSWERS [STATED]
                                    compare the answers in a file with this program's own, or with those in a third file
@@ -35,7 +36,8 @@ fn main() -> ExitCode {
     let arguments: Vec<String> = std::env::args().skip(1).collect();
     let words: Vec<&str> = arguments.iter().map(String::as_str).collect();
     let done = match words[..] {
-        ["list"] => list(),
+        ["list"] => through(listing),
+        ["total"] => through(totalling),
         ["cases", kind, seed, count] => cases(kind, seed, count),
         ["answer"] => answer(),
         ["judge", cases, answers] => return judged(cases, answers, None),
@@ -59,10 +61,11 @@ fn failed(failure: Failure) -> ExitCode {
     ExitCode::from(2)
 }
 
-fn list() -> Result<(), Failure> {
+/// Writes what is made of the whole input.
+fn through(made: impl Fn(&[u8]) -> Vec<u8>) -> Result<(), Failure> {
     let mut input = Vec::new();
     io::stdin().lock().read_to_end(&mut input)?;
-    Ok(io::stdout().lock().write_all(&listing(&input))?)
+    Ok(io::stdout().lock().write_all(&made(&input))?)
 }
 
 fn cases(kind: &str, seed: &str, count: &str) -> Result<(), Failure> {
@@ -93,7 +96,7 @@ fn answer() -> Result<(), Failure> {
 
 fn sheet(line: impl Fn(&sheet_of_examples::Stated) -> String) -> Result<(), Failure> {
     let mut out = io::BufWriter::new(io::stdout().lock());
-    for stated in &sheet_of_examples::stated() {
+    for stated in sheet_of_examples::stated().iter().chain(&sheet_of_examples::totals()) {
         writeln!(out, "{}", line(stated))?;
     }
     Ok(out.flush()?)

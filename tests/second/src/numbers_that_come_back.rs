@@ -17,6 +17,7 @@ pub enum Refusal {
     Count = 11,
     Plan = 12,
     Input = 13,
+    Full = 14,
 }
 
 impl Refusal {

@@ -1,5 +1,5 @@
-//! The sheet of examples, the plan examples and the lister's listing as data in the words of the rules, and the case and answer
-//! lines made of them and of the manual's examples. The answers come from this data and not from the calls of this program.
+//! The sheet of examples, the plan examples, the lister's listing and its totals as data in the words of the rules, and the case and
+//! answer lines made of them and of the manual's examples. The answers come from this data and not from the calls of this program.
 
 use crate::cases::{Case, Reply};
 use crate::collector;
@@ -122,6 +122,51 @@ pub const REFUSED_RECORD: &[u8] = b"   .00 8";
 pub const LISTER_INPUT: &[u8] = b"ZZ9V.99;-9;\n 12.34-7\n  7.00 8\n   .00 8\n";
 pub const LISTING: &[u8] = b"0,0,0,2,8\n1,0,0,1234,-7\n2,0,0,700,8\n3,10,1\n";
 
+/// What the totals program prints for the lister's input.
+pub const TOTALS: &[u8] = b"0,0,0,2,8\n3,10,1\n2\n1,1934,700,1234\n2,1,-7,8\n";
+
+/// The records of the listing end to end.
+pub const BATCH: &[u8] = b" 12.34-7  7.00 8   .00 8";
+
+/// The count of a totals sheet, and of each field of that layout the sum, the least and the greatest.
+pub type Totals = (i64, [[i64; 3]; 2]);
+
+/// The largest sum, and with a minus the smallest.
+const LARGEST: i64 = 999_999_999_999_999_999;
+
+const NO_TOTALS: Totals = (0, [[0; 3]; 2]);
+const TOTALS_OF_ONE: Totals = (1, [[1_234, 1_234, 1_234], [-7, -7, -7]]);
+const TOTALS_OF_TWO: Totals = (2, [[1_934, 700, 1_234], [1, -7, 8]]);
+
+/// Place in the batch, the sheet, how many fields are read, and the sheet behind that.
+pub const ADDED: &[(u64, Totals, usize, Totals)] = &[
+    (0, NO_TOTALS, 2, TOTALS_OF_ONE),
+    (8, TOTALS_OF_ONE, 2, TOTALS_OF_TWO),
+    (24, TOTALS_OF_TWO, 0, TOTALS_OF_TWO),
+    (0, (0, [[100, 9, 9], [-100, 9, 9]]), 2, (1, [[1_334, 1_234, 1_234], [-107, -7, -7]])),
+    (8, (8_999, [[0, 900, -900], [0, -900, 900]]), 2, (9_000, [[700, 700, 700], [8, -900, 900]])),
+    (0, (1, [[LARGEST - 1_234, 0, 0], [0; 3]]), 2, (2, [[LARGEST, 0, 1_234], [-7, -7, 0]])),
+    (0, (1, [[0; 3], [7 - LARGEST, 0, 0]]), 2, (2, [[1_234, 0, 1_234], [-LARGEST, -7, 0]])),
+    (24, (1, [[i64::MIN, 0, 0], [i64::MAX, 0, 0]]), 0, (1, [[i64::MIN, 0, 0], [i64::MAX, 0, 0]])),
+];
+
+/// Place in the batch, the sheet, and the number and field of the refusal.
+pub const ADDING_REFUSED: &[(u64, Totals, u64, u64)] = &[
+    (16, TOTALS_OF_TWO, 10, 1),
+    (7, NO_TOTALS, 9, 0),
+    (32, NO_TOTALS, 9, 0),
+    (u64::MAX, NO_TOTALS, 9, 0),
+    (0, (9_000, [[0; 3]; 2]), 14, 0),
+    (7, (9_000, [[0; 3]; 2]), 14, 0),
+    (24, (9_000, [[0; 3]; 2]), 14, 0),
+    (0, (-1, [[0; 3]; 2]), 14, 0),
+    (0, (1, [[LARGEST - 1_233, 0, 0], [0; 3]]), 8, 1),
+    (0, (1, [[0; 3], [6 - LARGEST, 0, 0]]), 8, 2),
+    (0, (1, [[0; 3], [LARGEST + 1, 0, 0]]), 8, 2),
+    (0, (1, [[i64::MIN, 0, 0], [i64::MAX, 0, 0]]), 8, 1),
+    (16, (1, [[LARGEST + 1, 0, 0], [0; 3]]), 10, 1),
+];
+
 /// The content of lent memory before a call.
 const GUARD: u8 = 0xa5;
 /// The lent bytes beyond those needed.
@@ -137,6 +182,52 @@ pub fn stated() -> Vec<Stated> {
     all.extend(punched_plan());
     all.extend(manual::examples().into_iter().map(|(picture, example)| of_manual(picture, example)));
     all
+}
+
+/// The additions to totals sheets. They stand apart, since a program without totals is held to the others alone.
+pub fn totals() -> Vec<Stated> {
+    let mut all = Vec::new();
+    for &(place, before, fields, after) in ADDED {
+        all.push(stated_case(adding(BATCH, place, before), fields, &sheet_bytes(after)));
+    }
+    for &(place, before, number, field) in ADDING_REFUSED {
+        all.push(refused_case(adding(BATCH, place, before), number, field));
+    }
+    all.extend(batches());
+    all.extend(short_runs());
+    all
+}
+
+/// The runs of full sheets that lack their last byte, by a plan and by bytes that are none, at a place that is none either.
+fn short_runs() -> Vec<Stated> {
+    let sheet = sheet_bytes((9_000, [[0; 3]; 2]))[..775].to_vec();
+    let add = |plan: &[u8], sheet| Case::TotalsAdd { plan: plan.to_vec(), batch: BATCH.to_vec(), place: 7, sheet };
+    vec![refused_case(add(PLAN, sheet.clone()), 7, 0), refused_case(add(NO_PLAN, sheet), 12, 0)]
+}
+
+/// Batches of as many bytes as may be and of none, of a record too many, and of a byte too many.
+fn batches() -> Vec<Stated> {
+    let long = RECORDS[1].0.repeat(8_193);
+    let after = sheet_bytes((1, [[700, 700, 700], [8, 8, 8]]));
+    vec![
+        stated_case(adding(&long[..65_536], 65_528, NO_TOTALS), 2, &after),
+        stated_case(adding(&long[..65_536], 65_536, NO_TOTALS), 0, &[]),
+        stated_case(adding(&[], 0, NO_TOTALS), 0, &[]),
+        refused_case(adding(&long, 0, NO_TOTALS), 9, 0),
+        refused_case(adding(&long[..9], 0, NO_TOTALS), 9, 0),
+    ]
+}
+
+fn adding(batch: &[u8], place: u64, totals: Totals) -> Case {
+    let sheet = [sheet_bytes(totals), vec![GUARD; SPARE]].concat();
+    Case::TotalsAdd { plan: PLAN.to_vec(), batch: batch.to_vec(), place, sheet }
+}
+
+/// A totals sheet of 32 places, zero behind those of the two fields.
+fn sheet_bytes((count, fields): Totals) -> Vec<u8> {
+    let places = |which: usize| fields.iter().map(move |field| field[which]).chain([0; 30]);
+    let numbers: Vec<i64> = [count].into_iter().chain((0..3).flat_map(places)).collect();
+    collector::bytes(&numbers)
 }
 
 fn sheet() -> Vec<Stated> {

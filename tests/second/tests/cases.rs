@@ -2,9 +2,11 @@
 
 use second::cases::{hex, unhex, Case, Reply};
 use second::collector::numbers;
+use second::layouts_and_plans::{pictures_of_plan, record_length};
 use second::make::{case, random::Random, KINDS};
 use second::rules_of_shape::Picture;
 use second::text_to_symbols::{symbols_of, Symbol};
+use std::collections::HashMap;
 
 fn answered(kind: &str, seed: u64, count: usize) -> Vec<(Case, Reply)> {
     let mut random = Random::new(seed);
@@ -12,11 +14,12 @@ fn answered(kind: &str, seed: u64, count: usize) -> Vec<(Case, Reply)> {
     made.map(|case| (case.clone(), case.answer())).collect()
 }
 
-/// The lent bytes that a successful call of this length writes.
+/// The lent bytes that a successful call of this length may write. At the end of a batch no record is added.
 fn written(case: &Case, length: usize) -> usize {
     match case {
         Case::Check { .. } => 0,
         Case::Read { .. } | Case::PlanRead { .. } => 8 * length,
+        Case::TotalsAdd { .. } if length > 0 => 776,
         _ => length,
     }
 }
@@ -37,19 +40,21 @@ fn refusals_name_a_field_only_in_layouts_and_plans() {
         let single = matches!(case, Case::Check { .. } | Case::Edit { .. } | Case::Read { .. });
         let named = !single && matches!(number, 1..=6 | 8 | 10);
         assert_eq!(field > 0, named, "{}", case.line());
-        assert!(field <= 32 && (length > 0) == (number == 0), "{}", case.line());
+        let at_end = matches!(&case, Case::TotalsAdd { batch, place, .. } if *place == batch.len() as u64);
+        assert!(field <= 32 && (length > 0) == (number == 0 && !at_end), "{}", case.line());
     }
 }
 
 #[test]
 fn most_cases_reach_the_last_test() {
-    let last: [(&str, &[u64]); 6] = [
+    let last: [(&str, &[u64]); 7] = [
         ("check", &[0, 4, 5]),
         ("edit", &[0, 7]),
         ("read", &[0, 10]),
         ("compile", &[0, 7]),
         ("plan_read", &[0, 10]),
         ("plan_edit", &[0, 7]),
+        ("totals_add", &[0, 8]),
     ];
     for (kind, numbers) in last {
         let all = answered(kind, 13, 4_000);
@@ -60,13 +65,14 @@ fn most_cases_reach_the_last_test() {
 
 #[test]
 fn every_number_comes_back_in_every_call_that_has_it() {
-    let numbers: [(&str, &[u64]); 6] = [
+    let numbers: [(&str, &[u64]); 7] = [
         ("check", &[0, 1, 2, 3, 4, 5]),
         ("edit", &[0, 1, 2, 3, 4, 5, 6, 7, 8]),
         ("read", &[0, 1, 2, 3, 4, 5, 7, 9, 10]),
         ("compile", &[0, 1, 2, 3, 4, 5, 7, 11]),
         ("plan_read", &[0, 7, 9, 10, 12]),
         ("plan_edit", &[0, 6, 7, 8, 9, 12]),
+        ("totals_add", &[0, 7, 8, 9, 10, 12, 14]),
     ];
     for (kind, expected) in numbers {
         let mut seen: Vec<u64> = answered(kind, 14, 4_000).iter().map(|(_, reply)| reply.number()).collect();
@@ -262,6 +268,119 @@ fn plans_with_every_byte_are_run_and_refused() {
     }
 }
 
+/// An addition that was tried: lengths, place, the run's numbers before and behind, and the answer.
+struct Tried {
+    batch: u64,
+    record: u64,
+    place: u64,
+    run: usize,
+    before: Vec<i64>,
+    after: Vec<i64>,
+    number: u64,
+    field: usize,
+    fields_read: u64,
+}
+
+/// None for bytes that are no plan.
+fn tried(case: &Case, reply: &Reply) -> Option<Tried> {
+    let Case::TotalsAdd { plan, batch, place, sheet } = case else { panic!("another call: {}", case.line()) };
+    let pictures = pictures_of_plan(plan)?;
+    Some(Tried {
+        batch: batch.len() as u64,
+        record: record_length(&pictures) as u64,
+        place: *place,
+        run: sheet.len(),
+        before: numbers(sheet),
+        after: numbers(&reply.memory),
+        number: reply.number(),
+        field: (reply.packed / 256 % 256) as usize,
+        fields_read: reply.packed / 65_536,
+    })
+}
+
+/// What there is to say of an addition; a sentence, and whether it is true.
+type Said = Vec<(&'static str, bool)>;
+
+fn said_of_count(t: &Tried) -> Said {
+    let count = t.before.first().copied().unwrap_or(0);
+    vec![
+        ("a sheet takes its first record", t.fields_read > 0 && count == 0),
+        ("a sheet takes its last record", t.fields_read > 0 && count == 8_999),
+        ("a sheet has 9,000 records", t.number == 14 && count == 9_000),
+        ("a sheet has a count of many records", t.number == 14 && count == 1 << 32),
+        ("a sheet has a negative count", t.number == 14 && count < 0),
+    ]
+}
+
+fn said_of_sums(t: &Tried) -> Said {
+    let limit = 1_000_000_000_000_000_000u64;
+    let sum = |field: usize| t.before[field];
+    let refused = |may: &dyn Fn(i64) -> bool| t.number == 8 && may(sum(t.field));
+    let read = 1 + t.fields_read as usize;
+    let beyond = |sums: &[i64]| sums.iter().any(|sum| sum.unsigned_abs() >= limit);
+    let becomes = |sum: i64| t.fields_read > 0 && t.after[1..read].contains(&sum);
+    vec![
+        ("a sum becomes the largest", becomes(999_999_999_999_999_999)),
+        ("a sum becomes the smallest", becomes(-999_999_999_999_999_999)),
+        ("a sum would become too large", refused(&|sum| sum > 0 && sum.unsigned_abs() < limit)),
+        ("a sum would become too small", refused(&|sum| sum < 0 && sum.unsigned_abs() < limit)),
+        ("a sum handed in is one too large", refused(&|sum| sum == 1_000_000_000_000_000_000)),
+        ("a sum handed in is one too small", refused(&|sum| sum == -1_000_000_000_000_000_000)),
+        ("a sum handed in is at an end of 64 bits", refused(&|sum| sum == i64::MIN || sum == i64::MAX)),
+        ("a sum without a field isn't judged", t.fields_read > 0 && beyond(&t.before[read..33])),
+        ("a sum isn't judged at the end", t.number == 0 && t.fields_read == 0 && beyond(&t.before[1..33])),
+        ("a bad field goes before a sum", t.number == 10 && beyond(&t.before[1..33])),
+    ]
+}
+
+fn said_of_places(t: &Tried) -> Said {
+    let whole = t.batch.is_multiple_of(t.record);
+    let start = t.place.is_multiple_of(t.record);
+    let refused = t.number == 9 && t.batch <= 65_536;
+    vec![
+        ("a record is the last", t.fields_read > 0 && t.place + t.record == t.batch),
+        (
+            "a record is neither the first nor the last",
+            t.fields_read > 0 && t.place > 0 && t.place + t.record < t.batch,
+        ),
+        ("a batch is at its end", t.number == 0 && t.batch > 0 && t.place == t.batch),
+        ("a batch is empty", t.number == 0 && t.batch == 0),
+        ("a batch isn't of whole records", refused && !whole && start && t.place < t.batch),
+        ("a place is within a record", refused && whole && !start && t.place < t.batch),
+        ("a place is past the end", refused && whole && start && t.place > t.batch),
+        ("a place is far behind", refused && whole && t.place >= 1 << 32),
+    ]
+}
+
+fn said_of_lengths(t: &Tried) -> Said {
+    let right = t.batch.is_multiple_of(t.record) && t.place.is_multiple_of(t.record) && t.place <= t.batch;
+    vec![
+        ("a batch is as long as may be", t.fields_read > 0 && t.batch == 65_536),
+        ("a batch is too long and right otherwise", t.number == 9 && right && t.batch > 65_536),
+        ("a run is empty", t.number == 7 && t.run == 0),
+        ("a run lacks a byte", t.number == 7 && t.run == 775),
+        ("a run has just room", t.fields_read > 0 && t.run == 776),
+        ("a run has a byte more", t.fields_read > 0 && t.run == 777),
+    ]
+}
+
+#[test]
+fn many_totals_stand_at_the_limits() {
+    let mut counts: HashMap<&str, usize> = HashMap::new();
+    for (case, reply) in answered("totals_add", 32, 20_000) {
+        let Some(tried) = tried(&case, &reply) else {
+            continue;
+        };
+        for said in [said_of_count, said_of_sums, said_of_places, said_of_lengths] {
+            said(&tried).into_iter().for_each(|(what, is_so)| *counts.entry(what).or_insert(0) += usize::from(is_so));
+        }
+    }
+    for (what, count) in counts {
+        let long = matches!(what, "a batch is as long as may be" | "a batch is too long and right otherwise");
+        assert!(count > if long { 5 } else { 40 }, "{what}: {count}");
+    }
+}
+
 #[test]
 fn a_seed_names_its_cases() {
     for kind in KINDS {
@@ -278,8 +397,10 @@ fn lines_are_read_back() {
         assert_eq!(Reply::parse(&reply.line()), Some(reply));
     }
     assert_eq!(Case::Edit { text: b"Z9".to_vec(), m: -5, q: 2, out: Vec::new() }.line(), "edit 5a39 -5 2 -");
-    for line in ["", "check", "check ", "check 5", "check 5A", "check 39 ", "edit 39 1 -1 -", "edit 39 1 1", "list 39"]
-    {
+    let adding = Case::TotalsAdd { plan: vec![1], batch: Vec::new(), place: u64::MAX, sheet: vec![255] };
+    assert_eq!(adding.line(), "totals_add 01 - 18446744073709551615 ff");
+    let calls = ["", "check", "check ", "check 5", "check 5A", "check 39 ", "edit 39 1 -1 -", "edit 39 1 1", "list 39"];
+    for line in calls.into_iter().chain(["totals_add 01 - -1 ff", "totals_add 01 - ff"]) {
         assert_eq!(Case::parse(line), None, "{line}");
     }
     assert_eq!((hex(&[]), hex(&[0, 255])), ("-".to_string(), "00ff".to_string()));

@@ -38,7 +38,7 @@ fn judged(name: &str, cases: &str, answers: &str) -> (Option<i32>, String) {
 
 #[test]
 fn own_answers_do_not_differ() {
-    for kind in ["picture", "layout", "all"] {
+    for kind in ["picture", "layout", "totals_add", "all"] {
         let cases = output_of(&["cases", kind, "21", "1500"], b"");
         assert_eq!(cases.lines().count(), 1_500);
         let answers = output_of(&["answer"], cases.as_bytes());
@@ -78,6 +78,27 @@ fn differences_are_worded() {
     assert!(report.contains("  got      no answer line: \"no\\tanswer\"\n"), "{report}");
 }
 
+/// How the judge shows an addition to an empty sheet, with a byte behind it, after which the answer has lost the sum.
+const LOST_SUM: [&str; 3] = [
+    r#"case 1: totals_add by the plan of "9;" at 0 of 1 bytes "7" to 777 bytes count 0 sums [] least [] greatest [] and [171]"#,
+    "  expected number 0 field 0 length 1 memory count 1 sums [7] least [7] greatest [7] and [171]",
+    "  got      number 0 field 0 length 1 memory count 1 sums [] least [7] greatest [7] and [171]",
+];
+
+#[test]
+fn sheets_are_worded() {
+    let sheet = |sevens: &[usize], count: u8| {
+        let mut sheet = [vec![0; 776], vec![171]].concat();
+        sheet[0] = count;
+        sevens.iter().for_each(|&at| sheet[at] = 7);
+        second::cases::hex(&sheet)
+    };
+    let case = format!("totals_add 01010100000100 37 0 {}\n", sheet(&[], 0));
+    let (code, report) = judged("lost_sum", &case, &format!("65536 {}\n", sheet(&[8 * 33, 8 * 65], 1)));
+    let words: Vec<&str> = report.lines().filter(|line| line.contains("count")).collect();
+    assert_eq!((code, &words[..]), (Some(1), &LOST_SUM[..]));
+}
+
 /// The exit code and the output of a judgement by the stated lines.
 fn judged_by(name: &str, cases: &str, answers: &str, stated: &str) -> (Option<i32>, String) {
     let lines = [("cases", cases), ("answers", answers), ("stated", stated)];
@@ -105,6 +126,7 @@ fn cases_in_messages_are_worded() {
         ("read 39 00 -", r#"read "9" field "\x00" into 0 bytes [] and []"#),
         ("plan_read 010101000001 - -", r#"plan_read by [1, 1, 1, 0, 0, 1] record "" into 0 bytes [] and []"#),
         ("plan_read 01010100000100 37 -", r#"plan_read by the plan of "9;" record "7" into 0 bytes [] and []"#),
+        ("totals_add 01010100000100 37 0 07", r#"totals_add by the plan of "9;" at 0 of 1 bytes "7" to 1 bytes [7]"#),
     ];
     for (line, words) in worded {
         assert_eq!(output_of(&["word"], format!("{line}\n").as_bytes()), format!("{line}\n  {words}\n"));
@@ -133,7 +155,7 @@ fn missing_and_spare_answers_are_found() {
 #[test]
 fn stated_answers_agree() {
     let (cases, answers) = (output_of(&["sheet", "cases"], b""), output_of(&["sheet", "answers"], b""));
-    assert_eq!(judged("sheet", &cases, &answers), (Some(0), "171 compared, 0 differ\n".to_string()));
+    assert_eq!(judged("sheet", &cases, &answers), (Some(0), "199 compared, 0 differ\n".to_string()));
     assert_eq!(output_of(&["answer"], cases.as_bytes()), answers);
 }
 
@@ -146,11 +168,20 @@ fn the_lister_runs() {
 }
 
 #[test]
+fn the_totals_program_runs() {
+    let input = second::sheet_of_examples::LISTER_INPUT;
+    assert_eq!(output_of(&["total"], input).as_bytes(), second::sheet_of_examples::TOTALS);
+    assert_eq!(output_of(&["total"], b""), "0,11,0\n");
+    assert_eq!(output_of(&["total"], &b"\n".repeat(65_537)), "0,13,0\n");
+}
+
+#[test]
 fn wrong_use_is_refused() {
-    let wrong: [&[&str]; 11] = [
+    let wrong: [&[&str]; 12] = [
         &[],
         &["lists"],
         &["list", "more"],
+        &["total", "more"],
         &["cases", "all", "1"],
         &["cases", "none", "1", "0"],
         &["cases", "all", "x", "1"],

@@ -1,8 +1,9 @@
-//! The sheet of examples, the plan examples and the manual's examples, each held against the calls of this program.
+//! The sheet of examples, the plan examples, the additions to totals sheets and the manual's examples, each held against the calls of
+//! this program.
 
 use second::manual::{examples, Example};
 use second::rules_of_shape::Picture;
-use second::sheet_of_examples::{self as sheet, blanks, stated};
+use second::sheet_of_examples::{self as sheet, blanks, stated, totals};
 use second::{check, compile, edit, is_plan, plan_edit, plan_read, read, Answer};
 
 fn refusal(number: u64, field: u64) -> Answer {
@@ -93,7 +94,7 @@ fn manual_examples() {
 
 #[test]
 fn stated_answers_are_the_own_answers() {
-    for (case, reply) in stated() {
+    for (case, reply) in stated().into_iter().chain(totals()) {
         assert_eq!(case.answer(), reply, "{}", second::judge::worded(&case));
     }
 }

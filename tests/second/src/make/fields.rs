@@ -22,16 +22,21 @@ pub fn for_picture(random: &mut Random, picture: &Picture) -> Vec<u8> {
     }
 }
 
-/// A record for pictures: all fields edited, at times one of them damaged or the length wrong.
-pub fn record(random: &mut Random, pictures: &[Picture]) -> Vec<u8> {
+/// A record for pictures of the right length: all fields edited, and in so many of a hundred one or two of them damaged.
+pub fn whole_record(random: &mut Random, pictures: &[Picture], damaged_percent: usize) -> Vec<u8> {
     let mut fields: Vec<Vec<u8>> = pictures.iter().map(|picture| edited(random, picture)).collect();
-    if random.percent(35) {
+    if random.percent(damaged_percent) {
         for _ in 0..random.between(1, 2) {
             let k = random.below(fields.len());
             fields[k] = damaged(random, &pictures[k], fields[k].clone());
         }
     }
-    let record = fields.concat();
+    fields.concat()
+}
+
+/// A record for pictures, at times damaged or of a wrong length.
+pub fn record(random: &mut Random, pictures: &[Picture]) -> Vec<u8> {
+    let record = whole_record(random, pictures, 35);
     if random.percent(8) {
         other_length(random, record)
     } else {

@@ -5,6 +5,7 @@ pub mod layouts;
 pub mod pictures;
 pub mod plans;
 pub mod random;
+pub mod totals;
 pub mod values;
 
 use crate::cases::Case;
@@ -13,7 +14,8 @@ use crate::rules_of_shape::Picture;
 use random::Random;
 
 /// The kinds of cases that can be asked for.
-pub const KINDS: [&str; 9] = ["check", "edit", "read", "compile", "plan_read", "plan_edit", "picture", "layout", "all"];
+pub const KINDS: [&str; 10] =
+    ["check", "edit", "read", "compile", "plan_read", "plan_edit", "totals_add", "picture", "layout", "all"];
 
 /// One case of a kind; None if there is no such kind.
 pub fn case(kind: &str, random: &mut Random) -> Option<Case> {
@@ -24,9 +26,10 @@ pub fn case(kind: &str, random: &mut Random) -> Option<Case> {
         "compile" => compile(random),
         "plan_read" => plan_read(random),
         "plan_edit" => plan_edit(random),
+        "totals_add" => totals_add(random),
         "picture" => return case(random.pick(&KINDS[..3]), random),
         "layout" => return case(random.pick(&KINDS[3..6]), random),
-        "all" => return case(random.pick(&KINDS[..6]), random),
+        "all" => return case(random.pick(&KINDS[..7]), random),
         _ => return None,
     };
     Some(made)
@@ -80,6 +83,17 @@ fn plan_edit(random: &mut Random) -> Case {
     let plan = plans::damaged_at_times(random, good, 20);
     let record = lent(random, record_length(&pictures), 1);
     Case::PlanEdit { plan, row, record }
+}
+
+fn totals_add(random: &mut Random) -> Case {
+    let long = random.below(250) == 0;
+    let good = if long && random.percent(50) { totals::filling_plan(random) } else { plans::good(random) };
+    let pictures = pictures_of_plan(&good).expect("a good plan");
+    let batch = if long { totals::long_batch(random, &pictures) } else { totals::batch(random, &pictures) };
+    let place = totals::place(random, batch.len(), record_length(&pictures));
+    let sheet = totals::sheet(random, &totals::values_at(&pictures, &batch, place));
+    let plan = plans::damaged_at_times(random, good, 10);
+    Case::TotalsAdd { plan, batch, place, sheet }
 }
 
 /// Lent memory with random content: mostly what is needed, else a little more or less, in bytes and in places of `unit` bytes.
