@@ -1,5 +1,6 @@
 /*
- * Morvenka for C: the edited picture fields of mainframe files, checked, written and read, one at a time or a record at a time.
+ * Morvenka for C: the edited picture fields of mainframe files, checked, written, read and added up, one at a time or a record at a
+ * time.
  *
  * This header is all that a C program needs to know; C++ takes it too. ./install puts it and the library where pkg-config finds them,
  * and the library needs the C library alone:
@@ -17,6 +18,10 @@
  *   row      one number a field, in eight bytes, little-endian, two's complement: the M of the field's value at its own f.
  *            On a little-endian machine, as x86-64 and Arm under Linux are, an array of int64_t is such a row: pass its address as
  *            a uint8_t * and its size in bytes.
+ *   batch    what several records by one layout are with nothing between them: at most 65,536 bytes.
+ *   sheet    the totals of records: 97 numbers of eight bytes, as in a row. These are how many records were added, 9,000 at most;
+ *            then for each of 32 places of a row the sum of its values; for each the least value; for each the greatest. In a
+ *            sheet without records every number is 0. Where an array of int64_t is a row, one of MORVENKA_SHEET_SIZE / 8 of them is a sheet.
  *
  * RUNS OF BYTES
  *   Each run is a pointer and then its length in bytes. The const runs are read and never written.
@@ -26,7 +31,8 @@
  *   there. Every other run is memory of that length.
  *   The library keeps nothing between calls and allocates nothing. It may be called from several threads at once, as long as none
  *   of them writes to memory that another has passed to a call still running.
- *   A call takes less than 2,048 bytes of stack on x86-64 and on 64-bit Arm, with what it calls of the C library bound.
+ *   A call takes less than 2,048 bytes of stack on x86-64 and on 64-bit Arm, and morvenka_totals_add less than 3,072, with what it
+ *   calls of the C library bound.
  *
  * ANSWERS
  *   Each call answers one number: number + 256 * field + 65,536 * length. The three functions below take it apart.
@@ -56,9 +62,9 @@ extern "C" {
 #endif
 
 /* The version of this header and its library, as text and as numbers; docs/COLLECTOR.md says what changes which number. */
-#define MORVENKA_VERSION "2.1.0"
+#define MORVENKA_VERSION "2.2.0"
 #define MORVENKA_VERSION_MAJOR 2
-#define MORVENKA_VERSION_MINOR 1
+#define MORVENKA_VERSION_MINOR 2
 #define MORVENKA_VERSION_PATCH 0
 
 /* The numbers that come back. */
@@ -71,12 +77,16 @@ enum morvenka_numbers {
     MORVENKA_DIGITS = 5,      /* the picture has no digit, or over 18 */
     MORVENKA_VALUE = 6,       /* M has over 18 digits, or q is over 18 */
     MORVENKA_ROOM = 7,        /* the lent run is shorter than needed */
-    MORVENKA_SIZE = 8,        /* too large for the digits before V; or negative, not cut to zero, with no sign in the picture */
-    MORVENKA_LENGTH = 9,      /* the field or record has another length; for editing, the row has not eight bytes a field */
+    MORVENKA_SIZE = 8,        /* too large for the digits before V; or negative, not cut to zero, with no sign in the picture;
+                                 for totals, a sum too large */
+    MORVENKA_LENGTH = 9,      /* the field or record has another length; for editing, the row has not eight bytes a field; for
+                                 totals, the batch is too long or isn't of whole records, or the place is none */
     MORVENKA_CONVERSION = 10, /* no value has this field */
     MORVENKA_COUNT = 11,      /* the layout is empty, too long, without its last semicolon, or has over 32 pictures */
     MORVENKA_PLAN = 12,       /* no accepted layout has these bytes as its plan */
-    MORVENKA_INPUT = 13       /* the record lister was given over 65,536 bytes; no call below gives it */
+    MORVENKA_INPUT = 13,      /* the record lister or the totals program was given over 65,536 bytes;
+                                 no call below gives it */
+    MORVENKA_FULL = 14        /* the totals sheet has 9,000 records or more, or a count below 0 */
 };
 
 /* Sizes in bytes that suffice for anything accepted. */
@@ -84,7 +94,18 @@ enum morvenka_sizes {
     MORVENKA_FIELD_MAX = 64,
     MORVENKA_RECORD_MAX = 2048,
     MORVENKA_PLAN_MAX = 1 + 3 * 32 + 2 + 2048,
-    MORVENKA_ROW_MAX = 8 * 32
+    MORVENKA_ROW_MAX = 8 * 32,
+    MORVENKA_BATCH_MAX = 65536,
+    MORVENKA_SHEET_SIZE = 8 * (1 + 3 * 32)
+};
+
+/* A totals sheet as an array of int64_t: where its parts begin, and how many records it takes. */
+enum morvenka_sheet {
+    MORVENKA_SHEET_COUNT = 0,
+    MORVENKA_SHEET_SUMS = 1,
+    MORVENKA_SHEET_LEAST = 1 + 32,
+    MORVENKA_SHEET_GREATEST = 1 + 2 * 32,
+    MORVENKA_SHEET_RECORDS = 9000
 };
 
 static inline unsigned morvenka_number(uint64_t answer)
@@ -120,6 +141,7 @@ static inline const char *morvenka_name(unsigned number)
     case MORVENKA_COUNT: return "COUNT";
     case MORVENKA_PLAN: return "PLAN";
     case MORVENKA_INPUT: return "INPUT";
+    case MORVENKA_FULL: return "FULL";
     default: return "?";
     }
 }
@@ -207,6 +229,21 @@ static inline size_t morvenka_field_scale(const uint8_t *plan, size_t plan_len, 
     }
     return scale;
 }
+
+/* Totals */
+
+/*
+ * Adds the record at byte `place` of a batch, counted from 0, to the totals in sheet. The first record's place is 0, and the next one's
+ * is a record length further, morvenka_plan_record of the plan.
+ * Success: the length is the number of fields, and the first MORVENKA_SHEET_SIZE bytes of sheet are the totals with this record. Where
+ * place is the length of the batch there is no record: the answer is 0, its length too, and the sheet stays.
+ * Refusals in order: PLAN; ROOM, if sheet has fewer than MORVENKA_SHEET_SIZE bytes; FULL; LENGTH, if the batch has over
+ * MORVENKA_BATCH_MAX bytes or ends within a record, or if no record begins at place and it isn't the batch's length; CONVERSION, with
+ * the first such field; SIZE, with the first field whose sum is 10^18 or more, plus or minus, as handed in or with this record.
+ * Least and greatest are set by the first record, where the count handed in is 0. The places behind the layout's fields stay.
+ */
+uint64_t morvenka_totals_add(const uint8_t *plan, size_t plan_len, const uint8_t *batch, size_t batch_len,
+                             uint64_t place, uint8_t *sheet, size_t sheet_len);
 
 /* One picture */
 

@@ -5,7 +5,7 @@ import struct
 
 PLAN_MAX, RECORD_MAX = 2147, 2048  # sizes that suffice for anything accepted
 DIGITS = 0, 1, 15, 16, 17  # the roles of digits in a plan
-NAMES = "OK TEXT SYMBOL LONG SHAPE DIGITS VALUE ROOM SIZE LENGTH CONVERSION COUNT PLAN INPUT".split()
+NAMES = "OK TEXT SYMBOL LONG SHAPE DIGITS VALUE ROOM SIZE LENGTH CONVERSION COUNT PLAN INPUT FULL".split()
 
 library = ctypes.CDLL("libmorvenka.so.2")
 

@@ -15,8 +15,8 @@ const ROW_MAX: usize = 8 * 32;
 // The roles of digits in a plan.
 const DIGITS: [u8; 5] = [0, 1, 15, 16, 17];
 
-const NAMES: [&str; 14] = [
-    "OK", "TEXT", "SYMBOL", "LONG", "SHAPE", "DIGITS", "VALUE", "ROOM", "SIZE", "LENGTH", "CONVERSION", "COUNT", "PLAN", "INPUT",
+const NAMES: [&str; 15] = [
+    "OK", "TEXT", "SYMBOL", "LONG", "SHAPE", "DIGITS", "VALUE", "ROOM", "SIZE", "LENGTH", "CONVERSION", "COUNT", "PLAN", "INPUT", "FULL",
 ];
 
 /// The length of a success, or the refusal in words.

@@ -52,6 +52,7 @@ static const char *const pictures[] = {
 
 static const char *const names[] = {
     "OK", "TEXT", "SYMBOL", "LONG", "SHAPE", "DIGITS", "VALUE", "ROOM", "SIZE", "LENGTH", "CONVERSION", "COUNT", "PLAN", "INPUT",
+    "FULL",
 };
 
 #define COUNT(array) (sizeof(array) / sizeof((array)[0]))

@@ -34,15 +34,16 @@
 
 enum { STACK = 1 << 15, STEP = 64, FIELDS = 32, TEXT_MAX = 128, LAYOUT_MAX = 4128, POSITIONS = 64, MOST_DIGITS = 18 };
 
-enum which { CHECK, EDIT, READ, COMPILE, PLAN_READ, PLAN_EDIT, KNOWN, CALLS };
+enum which { CHECK, EDIT, READ, COMPILE, PLAN_READ, PLAN_EDIT, TOTALS_ADD, KNOWN, CALLS };
 
 /* The calls by the kinds of their arguments. */
-enum kind { BY_TEXT, BY_VALUE, BY_TWO, BY_THREE };
+enum kind { BY_TEXT, BY_VALUE, BY_TWO, BY_THREE, BY_PLACE };
 union function {
     uint64_t (*by_text)(const uint8_t *, size_t);
     uint64_t (*by_value)(const uint8_t *, size_t, int64_t, uint64_t, uint8_t *, size_t);
     uint64_t (*by_two)(const uint8_t *, size_t, uint8_t *, size_t);
     uint64_t (*by_three)(const uint8_t *, size_t, const uint8_t *, size_t, uint8_t *, size_t);
+    uint64_t (*by_place)(const uint8_t *, size_t, const uint8_t *, size_t, uint64_t, uint8_t *, size_t);
 };
 
 /* A call of the library, or one that is measured like them. */
@@ -63,13 +64,14 @@ struct lent {
     size_t length;
 };
 
-/* One call with its arguments; a call takes those that its kind has. */
+/* One call with its arguments; a call takes those that its kind has. What it is lent holds `before` each time, or what is there. */
 struct job {
     enum which which;
     struct run first, second;
     int64_t m;
-    uint64_t q;
+    uint64_t q, place;
     struct lent lent;
+    const void *before;
 };
 
 /* A picture, how many digits it has in all and behind V, and whether it has a sign. */
@@ -100,11 +102,17 @@ static uint64_t empty_by_three(const uint8_t *a, size_t b, const uint8_t *c, siz
     return b + d + f + (a == NULL) + (c == NULL) + (e == NULL);
 }
 
+static uint64_t empty_by_place(const uint8_t *a, size_t b, const uint8_t *c, size_t d, uint64_t e, uint8_t *f, size_t g)
+{
+    return b + d + e + g + (a == NULL) + (c == NULL) + (f == NULL);
+}
+
 static const union function empties[] = {
     [BY_TEXT] = {.by_text = empty_by_text},
     [BY_VALUE] = {.by_value = empty_by_value},
     [BY_TWO] = {.by_two = empty_by_two},
     [BY_THREE] = {.by_three = empty_by_three},
+    [BY_PLACE] = {.by_place = empty_by_place},
 };
 
 enum { KNOWN_ROOM = 1000, KNOWN_BESIDE = 100 };
@@ -141,6 +149,7 @@ static const struct call calls[CALLS] = {
     [COMPILE] = {"morvenka_compile", BY_TWO, {.by_two = morvenka_compile}, BOUND(1768, 1904), 0},
     [PLAN_READ] = {"morvenka_plan_read", BY_THREE, {.by_three = morvenka_plan_read}, BOUND(1208, 1152), 0},
     [PLAN_EDIT] = {"morvenka_plan_edit", BY_THREE, {.by_three = morvenka_plan_edit}, BOUND(1080, 1072), BOUND(672, 672)},
+    [TOTALS_ADD] = {"morvenka_totals_add", BY_PLACE, {.by_place = morvenka_totals_add}, BOUND(2984, 2928), 0},
     [KNOWN] = {"a call that is known", BY_TEXT, {.by_text = known}, KNOWN_ROOM + KNOWN_BESIDE, 0},
 };
 
@@ -177,7 +186,18 @@ static void work(void)
     case BY_THREE:
         answer_at_work = f.by_three(j->first.at, j->first.length, j->second.at, j->second.length, j->lent.at, j->lent.length);
         break;
+    case BY_PLACE:
+        answer_at_work =
+            f.by_place(j->first.at, j->first.length, j->second.at, j->second.length, j->place, j->lent.at, j->lent.length);
+        break;
     }
+}
+
+/* The lent memory as the job has it. */
+static void lend(void)
+{
+    if (at_work.before != NULL)
+        memcpy(at_work.lent.at, at_work.before, at_work.lent.length);
 }
 
 static _Noreturn void stop(const char *call, const char *what, const char *why)
@@ -200,6 +220,7 @@ static size_t reach(union function function, const uint8_t paint[STACK])
 {
     ucontext_t back, context;
     function_at_work = function;
+    lend();
     memcpy(stack, paint, STACK);
     if (getcontext(&context) != 0)
         stop("getcontext", "the painted stack", "it failed");
@@ -264,6 +285,7 @@ static uint64_t measure(struct job job, const char *what, unsigned number, unsig
     char why[128];
     at_work = job;
     function_at_work = call->function;
+    lend();
     work();
     for (size_t k = 0; k < COUNT(paints); k++) {
         beside = reach(empties[call->kind], paints[k]);
@@ -323,6 +345,15 @@ static void plan_read(const char *layout, struct run plan, struct run record, st
 static void plan_edit(const char *layout, struct run plan, struct run row, struct lent record, unsigned number, unsigned field)
 {
     struct job job = {.which = PLAN_EDIT, .first = plan, .second = row, .lent = record};
+    measure(job, layout, number, field);
+}
+
+/* The totals are lent as they stand there, so many bytes of them. */
+static void totals_add(const char *layout, struct run plan, struct run batch, uint64_t place, const int64_t *totals, size_t size,
+                       unsigned number, unsigned field)
+{
+    static uint8_t sheet[MORVENKA_SHEET_SIZE];
+    struct job job = {.which = TOTALS_ADD, .first = plan, .second = batch, .place = place, .lent = {sheet, size}, .before = totals};
     measure(job, layout, number, field);
 }
 
@@ -463,6 +494,29 @@ struct layout {
     int64_t row[FIELDS], got[FIELDS];
 };
 
+/* The record as a batch of one, added to an empty sheet; its end; and the refusals of the sheet, the batch and the place. */
+static void good_record(const struct layout *l)
+{
+    struct run batch = {l->record, l->record_length};
+    unsigned last = (unsigned)l->fields;
+    int64_t totals[MORVENKA_SHEET_SIZE / 8] = {0};
+    totals_add(l->text, l->plan, batch, 0, totals, sizeof totals, MORVENKA_OK, 0);
+    totals_add(l->text, l->plan, batch, batch.length, totals, sizeof totals, MORVENKA_OK, 0);
+    totals_add(l->text, l->plan, batch, 0, totals, sizeof totals - 1, MORVENKA_ROOM, 0);
+    totals_add(l->text, l->plan, batch, batch.length + 1, totals, sizeof totals, MORVENKA_LENGTH, 0);
+    totals[MORVENKA_SHEET_SUMS + last - 1] = most_of(MOST_DIGITS) + 1;
+    totals_add(l->text, l->plan, batch, 0, totals, sizeof totals, MORVENKA_SIZE, last);
+    totals[MORVENKA_SHEET_COUNT] = MORVENKA_SHEET_RECORDS;
+    totals_add(l->text, l->plan, batch, 0, totals, sizeof totals, MORVENKA_FULL, 0);
+}
+
+static void bad_record(const struct layout *l, unsigned field)
+{
+    struct run batch = {l->record, l->record_length};
+    int64_t totals[MORVENKA_SHEET_SIZE / 8] = {0};
+    totals_add(l->text, l->plan, batch, 0, totals, sizeof totals, MORVENKA_CONVERSION, field);
+}
+
 /* The row as it stands and the record it is edited to, both ways; and the refusals of a good row and of its record. */
 static void row_and_record(struct layout *l)
 {
@@ -477,10 +531,13 @@ static void row_and_record(struct layout *l)
     plan_edit(l->text, l->plan, row, (struct lent){l->record, l->record_length - 1}, MORVENKA_ROOM, 0);
     plan_read(l->text, l->plan, (struct run){record.at, record.length - 1}, got, MORVENKA_LENGTH, 0);
     plan_read(l->text, l->plan, record, (struct lent){got.at, 8 * l->fields - 1}, MORVENKA_ROOM, 0);
+    good_record(l);
     l->record[l->record_length - 1] = 'x';
     plan_read(l->text, l->plan, record, got, MORVENKA_CONVERSION, last);
+    bad_record(l, last);
     l->record[0] = 'x';
     plan_read(l->text, l->plan, record, got, MORVENKA_CONVERSION, 1);
+    bad_record(l, 1);
 }
 
 /* A value in the last field that is refused. */
@@ -513,8 +570,11 @@ static void refused_plan(struct layout *l, size_t length)
     struct run plan = {l->plan_bytes, length};
     struct run row = {(const uint8_t *)l->row, 8 * l->fields}, record = {l->record, l->record_length};
     struct lent edited = {l->record, sizeof l->record}, got = {(uint8_t *)l->got, sizeof l->got};
+    int64_t totals[MORVENKA_SHEET_SIZE / 8] = {0};
     plan_edit(l->text, plan, row, edited, MORVENKA_PLAN, 0);
     plan_read(l->text, plan, record, got, MORVENKA_PLAN, 0);
+    totals_add(l->text, plan, record, 0, totals, sizeof totals, MORVENKA_PLAN, 0);
+    totals_add(l->text, plan, record, 0, totals, 0, MORVENKA_PLAN, 0);
 }
 
 /* The plan cut short, and with one byte damaged: the number of fields, the first n, the record length, the last role. */
@@ -623,7 +683,7 @@ static int report(void)
 {
     int within[KNOWN], all = 1;
     for (size_t k = 0; k < KNOWN; k++) {
-        printf("%-18s ", calls[k].name);
+        printf("%-19s ", calls[k].name);
         within[k] = show("", deepest[k], calls[k].bound);
         if (calls[k].writes_at != 0)
             within[k] &= show("; writes from", written_from[k], calls[k].writes_at);

@@ -5,9 +5,9 @@ use mathlib.Core.Path.{_≡_, refl, sym, ap, _∙_}
 use mathlib.Core.Bool.{true}
 use mathlib.Core.List.{List}
 use mathlib.Core.Option.{Option}
-use lib.IntN.{ℤ}
+use lib.IntN.{ℤ, pos}
 use lib.ListN.{length}
-use Rattle.rules.specs.Numbers.{firstOf}
+use Rattle.rules.specs.Numbers.{ROOM, firstOf}
 use Rattle.rules.specs.Form.{Form, meaning}
 use Rattle.rules.specs.Shape.{verdict}
 use Rattle.rules.specs.Answers.{amounts, answer, lentAfter, said, unsaid, numberOver, readBefore, recordAnswer}
@@ -16,7 +16,10 @@ use Rattle.rules.specs.Collector.{packed, rowBytes, bytesOf, readRunNumber, Rea
 use Rattle.rules.proofs.Exact.{reads-one}
 use Rattle.rules.proofs.Forms.{accepted-good, good-parts}
 use Rattle.rules.proofs.Outcomes.{one-outcome, record-reads-one, same-pair}
+use Rattle.totals.specs.declared.Added.{Added}
+use Rattle.totals.proofs.Past.{batch-added-one}
 use Rattle.collector.specs.PlanRuns.{placesIn, RecordRunIs, PlanReadRunIs, PlanEditRunIs}
+use Rattle.collector.specs.TotalRuns.{PlaceRunIs, TotalsAddRunIs, sheetFits, sheetIn, writtenAt}
 
 record-run-one : (rec run : List ℕ) (φs : List Form) → allGood φs ≡ true → (r s : ℕ) (x y : List ℕ) → RecordRunIs φs rec run r x → RecordRunIs φs rec run s y → (r ≡ s) × (x ≡ y)
 record-run-one rec run φs h r s x y a b =
@@ -30,6 +33,18 @@ plan-read-run-one b rec run r s x y = one-outcome b same-pair (λ φs h. record-
 
 pub plan-edit-run-one : (b run out : List ℕ) (r s : ℕ) (x y : List ℕ) → PlanEditRunIs b run out r x → PlanEditRunIs b run out s y → (r ≡ s) × (x ≡ y)
 plan-edit-run-one b run out r s x y = one-outcome b same-pair (λ φs h p q. same-pair (p .gives, p .leaves) (q .gives, q .leaves))
+
+-- Adding to a sheet: what an addition gives is one.
+place-run-one : (batch : List ℕ) (at : ℕ) (run : List ℕ) (φs : List Form) → allGood φs ≡ true → (r s : ℕ) (x y : List ℕ) → PlaceRunIs φs batch at run r x → PlaceRunIs φs batch at run s y
+    → (r ≡ s) × (x ≡ y)
+place-run-one batch at run φs h r s x y a b =
+    let e = batch-added-one φs batch at (sheetIn run) (a .added) (b .added) h (a .adds) (b .adds) in (
+      a .gives ∙ ap (λ (t : Added). packed (sheetFits run (t .answer) (answer ROOM 0 0 (pos 0)))) e ∙ sym (b .gives),
+      a .leaves ∙ ap (λ (t : Added). sheetFits run (lentAfter (t .answer .number) (writtenAt batch at (t .sheet)) run) run) e ∙ sym (b .leaves),
+    )
+
+pub totals-add-run-one : (b batch : List ℕ) (at : ℕ) (run : List ℕ) (r s : ℕ) (x y : List ℕ) → TotalsAddRunIs b batch at run r x → TotalsAddRunIs b batch at run s y → (r ≡ s) × (x ≡ y)
+totals-add-run-one b batch at run r s x y = one-outcome b same-pair (λ φs h. place-run-one batch at run φs h r s x y)
 
 -- By a picture: a refused text leaves no say to what the field says.
 abbrev ReadAnswer : List ℕ → List ℕ → List ℕ → Option ℤ → ℕ

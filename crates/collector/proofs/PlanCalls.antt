@@ -35,7 +35,7 @@ short n c h = by-test (ltb n c)
     (λ e. let l = ltb-true n c e in lt-ltb (min n 32) c (omega arith) ∙ sym e)
     (λ e. let l = ltb-false n c e in le-ltb (min n 32) c (omega arith) ∙ sym e)
 
-when-zero : (b : Bool) (n : ℕ) → when b (suc n) ≡ 0 → b ≡ false
+pub when-zero : (b : Bool) (n : ℕ) → when b (suc n) ≡ 0 → b ≡ false
 when-zero true n h = absurd (omega arith)
 when-zero false n h = refl
 
@@ -185,7 +185,7 @@ small : (n f l : ℕ) (v : ℤ) → l ≤ 65536 → answer n f l v .length ≤ 6
 small zero f l v h = h
 small (suc n) f l v h = omega arith
 
-over-small : (before : ℕ) (fields : List ℕ) (behind l : ℕ) → l ≤ 65536 → answerOver before fields behind l .length ≤ 65536
+pub over-small : (before : ℕ) (fields : List ℕ) (behind l : ℕ) → l ≤ 65536 → answerOver before fields behind l .length ≤ 65536
 unfolding answerOver
 over-small before fields behind l h = small (numberOver before fields behind) (cond (eqb before 0) (badField fields) 0) l (pos 0) h
 

@@ -1,1 +1,2 @@
 pub mod PlanRuns
+pub mod TotalRuns

@@ -25,7 +25,7 @@ pub record RecordRunIs (φs : List Form) (rec run : List ℕ) (r : ℕ) (after :
   pub gives : r ≡ packed (recordAnswer φs rec (placesIn run) says)
   pub leaves : after ≡ lentAfter (numberOver (readBefore φs rec (placesIn run)) (unsaid says) 0) (rowBytes (amounts says)) run
 
-abbrev notPlanRun : List ℕ → ℕ → List ℕ → Type 0
+abbrev pub notPlanRun : List ℕ → ℕ → List ℕ → Type 0
 notPlanRun lent r after = (r ≡ packed (answer PLAN 0 0 (pos 0))) × (after ≡ lent)
 
 abbrev pub PlanReadRunIs : List ℕ → List ℕ → List ℕ → ℕ → List ℕ → Type 0
