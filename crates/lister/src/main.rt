@@ -2,7 +2,6 @@
 // proved of the library `listing`; here the input is read and taken apart, and each line printed as soon as it is written. Each function
 // that lists has gone through all lines that the listing has, and answers how many; that each is printed, once and in order, is left to
 // the comparison. Where a line can't be written, those behind it are gone through and not printed.
-mod moving; // moving.rt: standard input read, the listing written
 mod saying; // saying.rt: what is said on standard error
 
 use listing::INPUT;
@@ -32,10 +31,11 @@ fn print_line(whole: bool, k: usize, input: &[u8], text: &[u8]) -> bool
     requires { ⌜ ListingLine (now input) k (now text) ⌝ }
     ensures { λ r. ⌜ (r ≡ true → whole ≡ true) ⌝ }
 {
-    if whole {
-        return moving::write(text);
-    }
-    false
+    moving::write(
+        whole,
+        text,
+        b"list: writing the listing failed, it is not whole",
+    )
 }
 
 // The records, from byte `from` of the input on, where line 1 begins. `record` is the one record that the lister keeps; `printed` says whether
@@ -118,7 +118,7 @@ fn main() {
     let mut plan = [0u8; PLAN];
     let mut record = [0u8; RECORD];
     let mut out = [0u8; LINE];
-    let got = moving::read(&mut input);
+    let got = moving::read(&mut input, b"list: reading the input failed");
     if got.whole {
         list_read(&input, got.count, &mut plan, &mut record, &mut out);
     }

@@ -4,9 +4,11 @@ pub mod Writing
 pub mod Commas
 pub mod Values
 pub mod Texts
+pub mod TotalTexts
 pub mod Layouts
 pub mod Records
 pub mod Splitting
 pub mod Keeping
 pub mod Printing
+pub mod TotalPrinting
 pub mod Joining

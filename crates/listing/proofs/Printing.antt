@@ -19,7 +19,7 @@ use Rattle.listing.specs.Program.{linesIn, layoutIn, ListingLine, lineCo
 use Rattle.listing.proofs.Layouts.{layout-text, plan-none, plan-first}
 use Rattle.listing.proofs.Records.{record-line-of}
 
-line-first : (text out after : List ℕ) (r : ℕ) → mostLine ≤ length out → r ≡ lineLength text out → after ≡ lineMemory text out → take r after ≡ text
+pub line-first : (text out after : List ℕ) (r : ℕ) → mostLine ≤ length out → r ≡ lineLength text out → after ≡ lineMemory text out → take r after ≡ text
 unfolding lineLength lineMemory
 line-first text out after r h p q = rw (p, q, le-leb mostLine (length out) h) (take-at text (drop (length text) out) (length text) refl)
 

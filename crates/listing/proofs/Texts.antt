@@ -27,7 +27,7 @@ head-le k number field =
     rw (behind-cons (decimal number) (decimal field ∷ []), length-append (decimal k), length-append (behind (decimal number ∷ [])))
     (omega (arith, decimal-le k, next-le number, next-le field))
 
-values-le : (zs : List ℤ) → length (texts zs) ≤ 22 * length zs
+pub values-le : (zs : List ℤ) → length (texts zs) ≤ 22 * length zs
 unfolding behind
 values-le [] = omega arith
 values-le (z ∷ zs) = rw (length-append (signedDecimal z) (texts zs)) (omega (arith, signed-le z, values-le zs))
@@ -57,7 +57,7 @@ pub line-out : (text out : List ℕ) → length out < mostLine → (0 ≡ lineLe
 unfolding lineLength lineMemory
 line-out text out h = rw (lt-leb mostLine (length out) h) (refl, (refl, omega arith))
 
-line-in : {text out after : List ℕ} {r : ℕ} → mostLine ≤ length out → length text ≤ mostLine → Puts text out 0 after r
+pub line-in : {text out after : List ℕ} {r : ℕ} → mostLine ≤ length out → length text ≤ mostLine → Puts text out 0 after r
     → (r ≡ lineLength text out) × ((after ≡ lineMemory text out) × (r ≤ length after))
 unfolding lineLength lineMemory
 line-in {text = text} {out = out} room l f =

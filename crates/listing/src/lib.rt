@@ -2,6 +2,7 @@
 // the limit. Every call takes every input. Where the lent memory is shorter than a line may be, nothing is written there and length 0
 // is answered. That a length lies `within` the memory follows from the rest, and is said so that a caller can lend the line on.
 mod number; // number.rt: a number in decimal
+pub mod total; // total.rt: the lines of a total
 mod words; // words.rt: the words of a line
 
 use rules::MOST_INPUT;

@@ -1,5 +1,5 @@
-// What the lister remarks beside the listing (RULES 8.8): how many lines of it say a refusal, and what stands at the ends of a line that an editor
-// or another machine has put there. Every call takes every input.
+// What is remarked beside a listing (RULES 8.8) and beside totals: how many lines of a listing say a refusal, and what stands at the ends of a line
+// that an editor or another machine has put there. Every call takes every input.
 ghost use mathlib.Core.Path.{_≡_};
 ghost use lib.ListN.{drop};
 ghost use Rattle.remarks.specs.Remarks.{notZero, refusals, endsIn, isMarked};

@@ -1,22 +1,23 @@
-// Bytes in and out. A read or a write that fails is told in a line on standard error, with the system's reason; one that a signal interrupts
-// counts as failed. The closing of a pipe that the listing goes to is no trouble, and is not told.
+// Bytes in and out, for the programs. A read or a write that fails is told in a line on standard error, the program's own words `failed` and the
+// system's reason; one that a signal interrupts counts as failed. The closing of a pipe that the lines go to is no trouble, and is not told.
 ghost use Prim.Native.Nat.{_≤_};
 ghost use mathlib.Core.Path.{_≡_};
+ghost use mathlib.Core.Bool.{true};
 ghost use lib.ListN.{length};
 
 // How many bytes have been read, and whether no read failed behind them.
-pub(crate) struct Got {
+pub struct Got {
     pub count: usize,
     pub whole: bool,
 }
 
 // Reads standard input into the first bytes of `input`, until that is full, the input ends or a read fails, which is told.
-pub(crate) fn read(input: &mut [u8]) -> Got
+pub fn read(input: &mut [u8], failed: &[u8]) -> Got
     ensures { λ r. ⌜ (r .count ≤ length (now (input .exit))) × (length (now (input .exit)) ≡ length (now (input .entry))) ⌝ }
 {
     let got = read_all(input);
     if !got.whole {
-        os::fail(b"list: reading the input failed");
+        os::fail(failed);
     }
     got
 }
@@ -39,13 +40,18 @@ fn read_all(input: &mut [u8]) -> Got
     Got { count, whole: true }
 }
 
-// Writes to standard output, and answers whether all of the text was taken.
-pub(crate) fn write(text: &[u8]) -> bool {
+// Writes to standard output where all before has been written, and answers whether all of this has been too.
+pub fn write(whole: bool, text: &[u8], failed: &[u8]) -> bool
+    ensures { λ r. ⌜ (r ≡ true → whole ≡ true) ⌝ }
+{
+    if !whole {
+        return false;
+    }
     if io::write_all(libc::STDOUT_FILENO, text) {
         return true;
     }
     if os::errno() != libc::EPIPE {
-        os::fail(b"list: writing the listing failed, it is not whole");
+        os::fail(failed);
     }
     false
 }

@@ -1,11 +1,11 @@
--- `lister::moving::read_all` never counts more bytes than it has room for: a read answers at most as many as it was lent. Assumes nothing.
+-- `moving::read_all` never counts more bytes than it has room for: a read answers at most as many as it was lent. Assumes nothing.
 use mathlib.Core.Path.{_≡_, refl}
 use Prim.Native.Nat.{_≤_, _-_}
 use native.Mathlib.Omega.{arith}
 use lib.ListN.{length}
 use borrow.Author.Needs.{needs}
-use Rattle.lister.proofs.moving.read_all.Statement.{statement}
-use Rattle.lister.proofs.moving.read_all.Tie as tie
+use Rattle.moving.proofs.read_all.Statement.{statement}
+use Rattle.moving.proofs.read_all.Tie as tie
 
 abbrev Inv-loop : tie.InvT-loop
 Inv-loop input₀ count₀ input count = (count ≤ length input) × (length input ≡ length input₀)
