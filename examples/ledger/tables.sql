@@ -36,7 +36,7 @@ CREATE TABLE weighbridge.refusals (
 );
 INSERT INTO weighbridge.refusals VALUES
     (1, 'TEXT'), (2, 'SYMBOL'), (3, 'LONG'), (4, 'SHAPE'), (5, 'DIGITS'), (6, 'VALUE'), (7, 'ROOM'), (8, 'SIZE'),
-    (9, 'LENGTH'), (10, 'CONVERSION'), (11, 'COUNT'), (12, 'PLAN'), (13, 'INPUT');
+    (9, 'LENGTH'), (10, 'CONVERSION'), (11, 'COUNT'), (12, 'PLAN'), (13, 'INPUT'), (14, 'FULL');
 
 -- The records refused. The line is kept as bytes: a bad line may hold any of them, and text takes neither NUL nor broken UTF-8.
 CREATE TABLE weighbridge.refused (
