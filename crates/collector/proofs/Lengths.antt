@@ -7,6 +7,7 @@ use lib.Dec.{eqb}
 use lib.IntN.{ℤ, pos}
 use lib.ListN.{length}
 use Rattle.rules.specs.declared.Answer.{Answer}
+use Rattle.rules.specs.declared.Rounding.{Rounding}
 use Rattle.rules.specs.Numbers.{LENGTH, unless, firstOf}
 use Rattle.rules.specs.Form.{size, meaning}
 use Rattle.rules.specs.Shape.{verdict}
@@ -26,9 +27,9 @@ pub check-length : (t : List ℕ) (r : Answer) → r ≡ checkAnswer t → r .le
 unfolding checkAnswer
 check-length t r e = rw e (success (verdict t) 0 (size (meaning t)) (pos 0) 65536 (λ v. omega (arith, accepted-size t v)))
 
-pub edit-length : (t : List ℕ) (m : ℤ) (q : ℕ) (out : List ℕ) (r : Answer) → r ≡ editAnswer t m q out → r .length ≤ 65536
+pub edit-length : (w : Rounding) (t : List ℕ) (m : ℤ) (q : ℕ) (out : List ℕ) (r : Answer) → r ≡ editAnswer w t m q out → r .length ≤ 65536
 unfolding editAnswer editNumber
-edit-length t m q out r e = rw e (success (editNumber t m q (length out)) 0 (size (meaning t)) (pos 0) 65536 (λ z. omega (arith, accepted-size t (first-zero _ _ z .0))))
+edit-length w t m q out r e = rw e (success (editNumber w t m q (length out)) 0 (size (meaning t)) (pos 0) 65536 (λ z. omega (arith, accepted-size t (first-zero _ _ z .0))))
 
 pub read-length : (t f : List ℕ) (r : Answer) → ReadIs t f r → r .length ≤ 65536
 unfolding readAnswer

@@ -7,6 +7,7 @@ use rules::MOST_PICTURES;
 ghost use mathlib.Core.Path.{_≡_};
 ghost use Prim.Native.Nat.{_/_, _≤_, min};
 ghost use lib.ListN.{length};
+ghost use Rattle.rules.specs.declared.Rounding.the-variants.{HalfAway, Cut};
 ghost use Rattle.rules.specs.Layout.{mostPictures};
 ghost use Rattle.rules.specs.Answers.{checkAnswer, editAnswer, editMemory, compileAnswer, compileMemory};
 ghost use Rattle.rules.specs.Collector.{packed, ReadRunIs};
@@ -27,12 +28,22 @@ pub extern "C" fn morvenka_check(text: &[u8]) -> u64
     pack(picture::check(text))
 }
 
+// Rounded half away from zero to the picture's places.
 #[no_mangle]
 pub extern "C" fn morvenka_edit(text: &[u8], m: i64, q: u64, out: &mut [u8]) -> u64
-    ensures answer { λ r. ⌜ r ≡ packed (editAnswer (now (text .entry)) m q (now (out .entry))) ⌝ }
-    ensures memory { λ _. ⌜ now (out .exit) ≡ editMemory (now (text .entry)) m q (now (out .entry)) ⌝ }
+    ensures answer { λ r. ⌜ r ≡ packed (editAnswer HalfAway (now (text .entry)) m q (now (out .entry))) ⌝ }
+    ensures memory { λ _. ⌜ now (out .exit) ≡ editMemory HalfAway (now (text .entry)) m q (now (out .entry)) ⌝ }
 {
     pack(picture::edit(text, m, q, out))
+}
+
+// Cut toward zero to the picture's places.
+#[no_mangle]
+pub extern "C" fn morvenka_edit_cut(text: &[u8], m: i64, q: u64, out: &mut [u8]) -> u64
+    ensures answer { λ r. ⌜ r ≡ packed (editAnswer Cut (now (text .entry)) m q (now (out .entry))) ⌝ }
+    ensures memory { λ _. ⌜ now (out .exit) ≡ editMemory Cut (now (text .entry)) m q (now (out .entry)) ⌝ }
+{
+    pack(picture::edit_cut(text, m, q, out))
 }
 
 // The value goes into the first eight bytes of `row`: picture, LENGTH, ROOM, CONVERSION. So a row that is too short comes before

@@ -1,3 +1,3 @@
 pub mod Signs
 pub mod Parts
-pub mod Cut
+pub mod Aligning

@@ -12,8 +12,7 @@ use borrow.Author.Tests.{leb-true, leb-false, le-ltb}
 use mir.Syntax.{w64}
 use mir.Val.{SFits, toZ, ofZ}
 use mir.Facts.{toZ-ofZ, toZ-pos}
-use Rattle.rules.specs.Edit.{isNegative}
-use Rattle.rules.specs.Candidate.{signed}
+use Rattle.rules.specs.Edit.{isNegative, signed}
 
 signed-fits : (b : Bool) (t : ℕ) → t < 2 ^ 63 → SFits w64 (signed b t)
 signed-fits false t h = record { sfits = h }

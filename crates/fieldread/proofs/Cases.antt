@@ -12,8 +12,8 @@ use Rattle.rules.specs.declared.Reading.the-variants.{Conversion}
 use Rattle.rules.specs.Words.{same}
 use Rattle.rules.specs.Form.{Form, size}
 use Rattle.rules.specs.Shape.{digitCount, mostDigits}
-use Rattle.rules.specs.Edit.{field, hasSign}
-use Rattle.rules.specs.Candidate.{minusFits, readOf, readingOf, signed, worthOf}
+use Rattle.rules.specs.Edit.{field, hasSign, signed}
+use Rattle.rules.specs.Candidate.{minusFits, readOf, readingOf, worthOf}
 use Rattle.fieldread.specs.Results.{readIn}
 
 module _ (φ : Form) (f : List ℕ) where

@@ -10,7 +10,7 @@ use lib.ListN.{length, getD, drop}
 use lib.Seq.{drop-cons}
 use Rattle.rules.specs.Numbers.{badField, firstOf, later}
 use Rattle.rules.specs.PlanBytes.{formsIn}
-use Rattle.rules.specs.Answers.{editVerdicts, fieldNumber}
+use Rattle.rules.specs.Answers.{editVerdicts, fieldNumber, verdictsIn}
 use Rattle.rules.proofs.PlanWalk.{PlanParts, fieldCount, formAt, formsAt, plan-parts, walk-end, walk-start, walk-step, widthAt}
 use Rattle.rules.specs.Powers.{powers}
 use Rattle.value.specs.Settling.{ownNumber}
@@ -63,7 +63,7 @@ row-step row i l = rw (add-one, drop-cons row i (pos 0) l)
 -- the field's number, and those behind it
 pub verdicts-step : (b : List ℕ) (row : List ℤ) (i at : ℕ) → i < fieldCount b → i < length row
     → editVerdicts (formsAt b i at) (drop i row) ≡ fieldNumber (formAt b i at) (getD row i (pos 0)) ∷ editVerdicts (formsAt b (i + 1) (at + widthAt b i)) (drop (i + 1) row)
-unfolding editVerdicts
+unfolding verdictsIn
 verdicts-step b row i at l k = rw (walk-step b i at l, row-step row i k)
 
 pub record Judged (b : List ℕ) (row : List ℤ) (i at : ℕ) : Type 0 where
@@ -102,7 +102,7 @@ module _ (b : List ℕ) (row : List ℤ) (p : Matched b row) where
     judged-step h = record { walk = walking-step b i at (j .walk) within-count; left = sym (bad-next i n _ h) ∙ whole }
 
   pub judged-end : (i at : ℕ) → Judged b row i at → length row ≤ i → bad 0 0 ≡ badOf (editVerdicts (formsIn b) row)
-  unfolding editVerdicts badFrom
+  unfolding verdictsIn badFrom
   judged-end i at j l =
       let k : fieldCount b ≤ i = omega (arith, p .each) in
       (rw (walk-end b i at k) at (j .left)) ∙ bad-is (editVerdicts (formsIn b) row)

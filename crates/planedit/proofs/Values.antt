@@ -14,6 +14,7 @@ use lib.ListN.{length, getD, take, drop}
 use lib.Seq.{sets}
 use Rattle.rules.specs.Form.{Form, formed, size}
 use Rattle.rules.specs.Shape.{places}
+use Rattle.rules.specs.declared.Rounding.the-variants.{HalfAway}
 use Rattle.rules.specs.Edit.{edited, isNegative}
 use Rattle.rules.specs.Good.{good}
 use Rattle.rules.specs.Answers.{fieldNumber, fieldOf}
@@ -50,7 +51,7 @@ module _ (φ : Form) (m : ℤ) where
 
   -- the sign and the magnitude are the value's own
   made : fieldNumber φ m ≡ 0 → fieldBy characters φ (isNegative m) (natAbs m) ≡ fieldOf φ m
-  made z = field-by φ (isNegative m) (natAbs m) (own-fits φ m (not-big φ m (places φ) z)) ∙ sym (own-edited φ m)
+  made z = field-by φ (isNegative m) (natAbs m) (own-fits φ m (not-big HalfAway φ m (places φ) z)) ∙ sym (own-edited φ HalfAway m)
 
 -- The part that is lent, up to the field's end, has the roles of the field's form.
 module _ (b : List ℕ) (i at : ℕ) where

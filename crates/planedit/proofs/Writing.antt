@@ -10,7 +10,7 @@ use Rattle.rules.specs.Form.{Form}
 use Rattle.rules.specs.Numbers.{firstOf}
 use Rattle.rules.specs.Layout.{recordLength}
 use Rattle.rules.specs.PlanBytes.{formsIn}
-use Rattle.rules.specs.Answers.{editVerdicts, fieldNumber, fieldOf, recordOf}
+use Rattle.rules.specs.Answers.{editVerdicts, fieldNumber, fieldOf, recordIn, recordOf}
 use Rattle.rules.proofs.Firsts.{first-zero}
 use Rattle.rules.proofs.Lists.{sets-append, sets-front}
 use Rattle.rules.proofs.PlanWalk.{PlanParts, count-forms-in, fieldCount, formAt, formsAt, walk-end, walk-start, walk-step, widthAt}
@@ -23,11 +23,11 @@ use Rattle.planedit.proofs.Judging.{field-within, parts, row-step, verd
 record-step : (b : List ℕ) (row : List ℤ) (i at : ℕ) → i < fieldCount b → i < length row
     → recordOf (formsAt b i at) (drop i row)
     ≡ fieldOf (formAt b i at) (getD row i (pos 0)) ++ recordOf (formsAt b (i + 1) (at + widthAt b i)) (drop (i + 1) row)
-unfolding recordOf
+unfolding recordIn
 record-step b row i at l k = rw (walk-step b i at l, row-step row i k)
 
 pub record-length : (φs : List Form) (row : List ℤ) → length row ≡ length φs → length (recordOf φs row) ≡ recordLength φs
-unfolding recordOf recordLength
+unfolding recordIn recordLength
 record-length [] row e = refl
 record-length (φ ∷ φs) [] e = absurd (omega arith)
 record-length (φ ∷ φs) (m ∷ ms) e = simp length-append (omega (arith, edited-size φ m, record-length φs ms (omega arith)))
@@ -88,7 +88,7 @@ module _ (b : List ℕ) (row : List ℤ) (lent : List ℕ) (p : Ready b row lent
 
   pub written-end : (i from : ℕ) (out : List ℕ) → Written b row lent start i from out → length row ≤ i
       → out ≡ recordOf (formsIn b) row ++ drop (length (recordOf (formsIn b) row)) lent
-  unfolding recordOf
+  unfolding recordIn
   written-end i from out w l =
       let k : fieldCount b ≤ i = omega (arith, p .matched .each) in
       let n : length (recordOf (formsIn b) row) ≤ length lent = omega (arith, p .room, record-length (formsIn b) row (p .matched .each ∙ sym (count-forms-in b))) in

@@ -2,9 +2,10 @@
 use mathlib.Core.Path.{_≡_, refl, sym, _∙_, ap}
 use mathlib.Core.List.{List, [], _∷_, _++_}
 use Prim.Native.Nat.{ℕ, zero, suc, _+_, _-_, _*_, _/_, _%_, _^_, _≤_, _<_}
-use native.Mathlib.Nat.{zero-div, mul-assoc, pow-suc, pow-succ', pow-le-pow-right, one-le-pow, mod-eq-of-lt, mod-one, mul-add-div-right, mul-add-mod-self-right, le-of-suc-le-suc, not-suc-le-zero}
+use native.Mathlib.Nat.{zero-div, sub-add-cancel, mul-assoc, pow-suc, pow-succ', pow-le-pow-right, one-le-pow, mod-eq-of-lt, mod-one, mul-add-div-right, mul-add-mod-self-right, le-of-suc-le-suc, not-suc-le-zero}
 use native.Mathlib.Numerals.{add-one}
 use native.Mathlib.Omega.{arith}
+use lib.Pow.{pow-add}
 use lib.Arith.{digits-lt, digits-div, mod-mul}
 use lib.Dec.{lit<}
 use lib.ListN.{length, getD, length-append}
@@ -12,6 +13,10 @@ use Rattle.rules.specs.Digits.{Digits, digitsOf, valueOf}
 
 pub ten-pos : (k : ℕ) → 0 < 10 ^ k
 ten-pos k = one-le-pow k 10 (lit< tt)
+
+-- the larger of two powers by the smaller
+pub ten-split : (a b : ℕ) → a ≤ b → 10 ^ b ≡ 10 ^ (b - a) * 10 ^ a
+ten-split a b h = ap (λ k. 10 ^ k) (sym (sub-add-cancel h)) ∙ pow-add 10 (b - a) a
 
 pub digits-length : (d t : ℕ) → length (digitsOf d t) ≡ d
 unfolding digitsOf

@@ -1,27 +1,28 @@
 -- Reading is exact: the only value that can have a field is what the digits shown are worth, so asking for that value's field with plus and
 -- then with minus decides; and the value is the only one. Assumes nothing.
 use mathlib.Core.Path.{_≡_, refl, sym, _∙_, ap}
-use mathlib.Core.Bool.{Bool, true, false, not, _&&_, true≢false, and-false}
+use mathlib.Core.Bool.{Bool, true, false, not, _&&_, _||_, true≢false, and-false}
 use mathlib.Core.List.{List, [], _∷_}
 use mathlib.Core.Option.{Option, none, some}
 use mathlib.Core.Logic.{⊎-elim}
-use Prim.Native.Nat.{ℕ, zero, suc, _+_, _/_, _^_, _<_, _≤_}
-use native.Mathlib.Nat.{mul-div-cancel, div-lt-iff-lt-mul}
+use Prim.Native.Nat.{ℕ, zero, suc, _+_, _^_, _<_, _≤_}
 use native.Mathlib.Omega.{arith}
 use borrow.Author.Tests.{leb-true, leb-false, le-leb, lt-leb, lt-ltb, ltb-true, ne-eqb, not-false}
-use lib.Pow.{pow-add}
 use lib.IntN.{ℤ, pos, negsuc, natAbs}
 use lib.Dec.{lit<, leb, ltb}
 use lib.ListN.{length, getD, drop}
+use Rattle.rules.specs.declared.Rounding.{Rounding}
+use Rattle.rules.specs.declared.Rounding.the-variants.{HalfAway}
 use Rattle.rules.specs.Words.{count, same}
 use Rattle.rules.specs.Roles.{isDigit}
 use Rattle.rules.specs.Form.{Form}
 use Rattle.rules.specs.Shape.{digitCount, digitsFit, mostDigits, places, whole}
 use Rattle.rules.specs.Digits.{Digits, valueOf}
-use Rattle.rules.specs.Edit.{aligned, edited, field, hasSign, inRange, isMinus, isNegative, mostScale, tooBig}
+use Rattle.rules.specs.Edit.{aligned, edited, field, hasSign, inRange, isMinus, isNegative, mostScale, signed, tooBig}
 use Rattle.rules.specs.Read.{Edits, ReadsAs}
-use Rattle.rules.specs.Candidate.{Fits, digitIn, minusFits, readOf, shown, shownIn, signed, worthOf}
+use Rattle.rules.specs.Candidate.{Fits, digitIn, minusFits, readOf, shown, shownIn, worthOf}
 use Rattle.rules.proofs.Digits.{ten-le, ten-pos, value-digits, value-lt}
+use Rattle.rules.proofs.Quotient.{quotient-exact}
 use Rattle.rules.proofs.Characters.{digit-small}
 use Rattle.rules.proofs.Fields.{shown-field}
 use Rattle.rules.proofs.Forms.{Good}
@@ -52,59 +53,53 @@ shown-digits (r ∷ rs) f k =
 pub shown-small : (rs f : List ℕ) → valueOf (shownIn rs f) < 10 ^ count isDigit rs
 shown-small rs f = let l = value-lt (shownIn rs f) (shown-digits rs f) in rw (shown-length rs f) at l
 
--- At the picture's own scale the aligned magnitude is the magnitude, and what VALUE and SIZE ask is that it fits.
+-- At the picture's own scale there is nothing to round: the aligned magnitude is the magnitude in either mode, and what VALUE and SIZE ask is that it fits.
 module _ (φ : Form) where
-  pub own-aligned : (m : ℤ) → aligned φ m (places φ) ≡ natAbs m
-  unfolding aligned
-  own-aligned m = mul-div-cancel (natAbs m) (ten-pos (places φ))
-
   pub digit-sum : whole φ + places φ ≡ digitCount φ
   unfolding whole places
   digit-sum = count-split isDigit (φ .vee) (φ .roles)
-
-  pub own-small : (t : ℕ) → t / 10 ^ places φ < 10 ^ whole φ → t < 10 ^ digitCount φ
-  own-small t h = rw (← digit-sum, pow-add 10 (whole φ) (places φ)) (div-lt-iff-lt-mul (ten-pos (places φ)) .0 h)
-
-  pub own-whole : (t : ℕ) → t < 10 ^ digitCount φ → t / 10 ^ places φ < 10 ^ whole φ
-  own-whole t h = div-lt-iff-lt-mul (ten-pos (places φ)) .1 (rw (← pow-add 10 (whole φ) (places φ), digit-sum) h)
-
-  pub own-minus : (m : ℤ) → isMinus φ m (places φ) ≡ isNegative m
-  unfolding isMinus
-  own-minus (pos n) = refl
-  own-minus (negsuc n) = rw (own-aligned (negsuc n), ne-eqb (suc n) 0 (λ q. omega arith))
-
-  pub own-edited : (m : ℤ) → edited φ m (places φ) ≡ field φ (isNegative m) (natAbs m)
-  unfolding edited
-  own-edited m = rw (own-minus m, own-aligned m)
 
   pub above : (m : ℤ) → isNegative m ≡ true → 0 < natAbs m
   above (pos n) e = absurd (true≢false (sym e))
   above (negsuc n) e = omega arith
 
-  -- a value that edits to a field fits
-  edits-fits : (m : ℤ) (f : List ℕ) → Edits φ m (places φ) f → Fits φ (isNegative m) (natAbs m)
-  unfolding tooBig
-  edits-fits m f e =
-      let w = neither (leb (10 ^ whole φ) (natAbs m / 10 ^ places φ)) _ (e .size) in
-      record {
-        small = own-small (natAbs m) (leb-false _ _ (w .0));
-        sign = λ n. (above m n, not-false _ (rw (own-aligned m, lt-ltb 0 (natAbs m) (above m n), n) at (w .1)));
-      }
+  module _ (w : Rounding) where
+    pub own-aligned : (m : ℤ) → aligned w φ m (places φ) ≡ natAbs m
+    unfolding aligned
+    own-aligned m = quotient-exact w (natAbs m) (10 ^ places φ) (ten-pos (places φ))
 
-  -- and what fits edits to its field
-  fits-edits : digitsFit φ ≡ true → (m : ℤ) → Fits φ (isNegative m) (natAbs m) → Edits φ m (places φ) (field φ (isNegative m) (natAbs m))
-  unfolding tooBig inRange digitsFit
-  fits-edits d m p =
-      let n = leb-true (digitCount φ) mostDigits (both (leb 1 (digitCount φ)) _ d .1) in
-      let a : natAbs m < 10 ^ mostDigits = omega (arith, p .small, ten-le (digitCount φ) mostDigits n) in
-      let b : places φ ≤ mostScale = omega (arith, digit-sum) in
-      let big : (ltb 0 (aligned φ m (places φ)) && isNegative m && not (hasSign φ)) ≡ false =
-      by-test (isNegative m) (λ e. rw (p .sign e .1) (and-false (ltb 0 (aligned φ m (places φ)) && isNegative m))) (λ e. rw e (rw and-false)) in
-      record {
-        value = rw (lt-ltb _ _ a) (le-leb _ _ b);
-        size = rw (lt-leb _ _ (own-whole (natAbs m) (p .small))) big;
-        field = own-edited m;
-      }
+    pub own-minus : (m : ℤ) → isMinus w φ m (places φ) ≡ isNegative m
+    unfolding isMinus
+    own-minus (pos n) = refl
+    own-minus (negsuc n) = rw (own-aligned (negsuc n), ne-eqb (suc n) 0 (λ q. omega arith))
+
+    pub own-big : (m : ℤ) → tooBig w φ m (places φ) ≡ (leb (10 ^ digitCount φ) (natAbs m) || isNegative m && not (hasSign φ))
+    unfolding tooBig
+    own-big m = rw (own-aligned m, own-minus m)
+
+    pub own-edited : (m : ℤ) → edited w φ m (places φ) ≡ field φ (isNegative m) (natAbs m)
+    unfolding edited
+    own-edited m = rw (own-minus m, own-aligned m)
+
+    -- a value that edits to a field fits
+    pub edits-fits : (m : ℤ) (f : List ℕ) → Edits w φ m (places φ) f → Fits φ (isNegative m) (natAbs m)
+    edits-fits m f e =
+        let s = neither (leb (10 ^ digitCount φ) (natAbs m)) _ (sym (own-big m) ∙ e .size) in
+        record { small = leb-false _ _ (s .0); sign = λ n. (above m n, not-false _ (rw n at (s .1))) }
+
+    -- and what fits edits to its field
+    pub fits-edits : digitsFit φ ≡ true → (m : ℤ) → Fits φ (isNegative m) (natAbs m) → Edits w φ m (places φ) (field φ (isNegative m) (natAbs m))
+    unfolding inRange digitsFit
+    fits-edits d m p =
+        let n = leb-true (digitCount φ) mostDigits (both (leb 1 (digitCount φ)) _ d .1) in
+        let a : natAbs m < 10 ^ mostDigits = omega (arith, p .small, ten-le (digitCount φ) mostDigits n) in
+        let b : places φ ≤ mostScale = omega (arith, digit-sum) in
+        let signless : (isNegative m && not (hasSign φ)) ≡ false = by-test (isNegative m) (λ e. rw (p .sign e .1, and-false (isNegative m))) (λ e. rw e) in
+        record {
+          value = rw (lt-ltb _ _ a) (le-leb _ _ b);
+          size = own-big m ∙ rw (lt-leb _ _ (p .small)) signless;
+          field = own-edited m;
+        }
 
 -- RULES 4.2, the uniqueness: of an accepted picture, two values at its own scale with one field are equal
 same-value : (m n : ℤ) → isNegative m ≡ isNegative n → natAbs m ≡ natAbs n → m ≡ n
@@ -114,10 +109,10 @@ same-value (pos m) (negsuc n) s e = absurd (true≢false (sym s))
 same-value (negsuc m) (pos n) s e = absurd (true≢false s)
 
 module _ (φ : Form) (g : Good φ) where
-  pub edits-one : (m n : ℤ) (f : List ℕ) → Edits φ m (places φ) f → Edits φ n (places φ) f → m ≡ n
-  edits-one m n f p q =
-      let e = sym (own-edited φ m) ∙ p .field ∙ sym (q .field) ∙ own-edited φ n in
-      let u = unique φ (sound φ g) _ _ _ _ (edits-fits φ m f p) (edits-fits φ n f q) e in
+  pub edits-one : (v w : Rounding) (m n : ℤ) (f : List ℕ) → Edits v φ m (places φ) f → Edits w φ n (places φ) f → m ≡ n
+  edits-one v w m n f p q =
+      let e = sym (own-edited φ v m) ∙ p .field ∙ sym (q .field) ∙ own-edited φ w n in
+      let u = unique φ (sound φ g) _ _ _ _ (edits-fits φ v m f p) (edits-fits φ w n f q) e in
       same-value m n (u .0) (u .1)
 
   -- so what a field says is one thing
@@ -125,16 +120,16 @@ module _ (φ : Form) (g : Good φ) where
   reads-one f none none a b = refl
   reads-one f none (some n) a b = absurd (a n b)
   reads-one f (some m) none a b = absurd (b m a)
-  reads-one f (some m) (some n) a b = ap some (edits-one m n f a b)
+  reads-one f (some m) (some n) a b = ap some (edits-one HalfAway HalfAway m n f a b)
 
 -- The candidate decides.
 module _ (φ : Form) (f : List ℕ) where
   -- no other magnitude can have this field
-  found : (m : ℤ) → Edits φ m (places φ) f → natAbs m ≡ worthOf φ f
+  found : (m : ℤ) → Edits HalfAway φ m (places φ) f → natAbs m ≡ worthOf φ f
   unfolding worthOf
   found m e =
-      let p = edits-fits φ m f e in
-      sym (value-digits _ _ (p .small)) ∙ ap valueOf (sym (shown-field φ _ (natAbs m)) ∙ ap (λ (g : List ℕ). shown φ g) (sym (own-edited φ m) ∙ e .field))
+      let p = edits-fits φ HalfAway m f e in
+      sym (value-digits _ _ (p .small)) ∙ ap valueOf (sym (shown-field φ _ (natAbs m)) ∙ ap (λ (g : List ℕ). shown φ g) (sym (own-edited φ HalfAway m) ∙ e .field))
 
   worth-small : worthOf φ f < 10 ^ digitCount φ
   unfolding worthOf
@@ -149,22 +144,22 @@ module _ (φ : Form) (f : List ℕ) where
   minus-fits t l h = rw (lt-ltb 0 t l) h
 
   -- a value with this field has it with its own sign
-  own-field : (m : ℤ) → Edits φ m (places φ) f → field φ (isNegative m) (worthOf φ f) ≡ f
-  own-field m e = ap (λ (t : ℕ). field φ (isNegative m) t) (sym (found m e)) ∙ sym (own-edited φ m) ∙ e .field
+  own-field : (m : ℤ) → Edits HalfAway φ m (places φ) f → field φ (isNegative m) (worthOf φ f) ≡ f
+  own-field m e = ap (λ (t : ℕ). field φ (isNegative m) t) (sym (found m e)) ∙ sym (own-edited φ HalfAway m) ∙ e .field
 
   -- neither with plus nor with minus: no value has it
-  none-reads : same (field φ false (worthOf φ f)) f ≡ false → (minusFits φ (worthOf φ f) && same (field φ true (worthOf φ f)) f) ≡ false → (m : ℤ) → Edits φ m (places φ) f → ⊥
+  none-reads : same (field φ false (worthOf φ f)) f ≡ false → (minusFits φ (worthOf φ f) && same (field φ true (worthOf φ f)) f) ≡ false → (m : ℤ) → Edits HalfAway φ m (places φ) f → ⊥
   none-reads a b (pos n) e = true≢false (sym (eq-same _ _ (own-field (pos n) e)) ∙ a)
   none-reads a b (negsuc n) e =
-      let p = rw (found (negsuc n) e) at (edits-fits φ (negsuc n) f e .sign refl) in
+      let p = rw (found (negsuc n) e) at (edits-fits φ HalfAway (negsuc n) f e .sign refl) in
       let c = minus-fits (worthOf φ f) (p .0) (p .1) in
       true≢false (sym (rw c (eq-same _ _ (own-field (negsuc n) e))) ∙ b)
 
-  -- with the sign under which it has this field, the candidate edits to it
-  signed-edits : digitsFit φ ≡ true → (negative : Bool) (t : ℕ) → Fits φ negative t → field φ negative t ≡ f → Edits φ (signed negative t) (places φ) f
-  signed-edits d false t p e = rw (← e) (fits-edits φ d (pos t) p)
+  -- with the sign under which it has this field, a magnitude that fits edits to it
+  pub signed-edits : digitsFit φ ≡ true → (negative : Bool) (t : ℕ) → Fits φ negative t → field φ negative t ≡ f → Edits HalfAway φ (signed negative t) (places φ) f
+  signed-edits d false t p e = rw (← e) (fits-edits φ HalfAway d (pos t) p)
   signed-edits d true zero p e = let z : ⊥ = omega (arith, p .sign refl .0) in absurd z
-  signed-edits d true (suc n) p e = rw (← e) (fits-edits φ d (negsuc n) p)
+  signed-edits d true (suc n) p e = rw (← e) (fits-edits φ HalfAway d (negsuc n) p)
 
   pub reads-of : digitsFit φ ≡ true → ReadsAs φ f (readOf φ f)
   unfolding readOf

@@ -2,11 +2,14 @@
 -- one by one shows which. And the lister's limit, for every input. Assumes nothing.
 use mathlib.Core.Path.{_≡_, refl}
 use mathlib.Core.List.{List, []}
-use Prim.Native.Nat.{ℕ, _≤_}
+use Prim.Native.Nat.{ℕ, _*_, _≤_}
 use native.Mathlib.Omega.{arith}
 use borrow.Author.Tests.{le-leb, lt-leb}
+use lib.IntN.{pos}
 use lib.ListN.{length}
+use Rattle.rules.specs.declared.Rounding.the-variants.{HalfAway, Cut}
 use Rattle.rules.specs.Words.{text}
+use Rattle.rules.specs.Near.{Near}
 use Rattle.rules.specs.Lister.{Lists, ListsLines, linesFrom, mostInput, overLimit}
 use Rattle.rules.specs.Sheet.{All, others, sheet}
 use Rattle.rules.specs.Lines
@@ -59,6 +62,22 @@ blanks-hold = all-hold Lines.blanks refl
 pub alignment-hold : All Lines.alignment
 unfolding definitions
 alignment-hold = all-hold Lines.alignment refl
+
+pub rounding-hold : All Lines.rounding
+unfolding definitions
+rounding-hold = all-hold Lines.rounding refl
+
+pub distances-hold : All Lines.distances
+unfolding definitions
+distances-hold = all-hold Lines.distances refl
+
+-- how far is too far: at a whole last place, and in rounding past a half of it
+pub near-ends : Near Cut (pos 0) 0 (pos 9) 1 × (Near Cut (pos 0) 0 (pos 10) 1 → ⊥) × Near HalfAway (pos 0) 0 (pos 5) 1 × (Near HalfAway (pos 0) 0 (pos 6) 1 → ⊥)
+unfolding definitions
+near-ends = (record { less = omega arith; half = λ e. cut-apart e }, λ n. omega (arith, n .less), record { less = omega arith; half = λ e. omega arith }, λ n. omega (arith, n .half refl))
+  where
+    cut-apart : Cut ≡ HalfAway → 2 * 9 ≤ 10
+    cut-apart e = let x : _≡_ {A = ℕ} 0 1 = cc in absurd (omega arith)
 
 pub readings-hold : All Lines.readings
 unfolding definitions
@@ -117,7 +136,7 @@ unfolding definitions
 listings-hold = all-hold Lines.listings refl
 
 pub ours-hold : All Lines.ours
-ours-hold = all-join _ _ statics-hold (all-join _ _ drifting-hold (all-join _ _ insertions-hold (all-join _ _ gaps-hold (all-join _ _ digits-hold (all-join _ _ punches-hold (all-join _ _ punched-hold (all-join _ _ blanks-hold (all-join _ _ alignment-hold (all-join _ _ readings-hold (all-join _ _ texts-hold (all-join _ _ suppressions-hold (all-join _ _ placements-hold (all-join _ _ limits-hold (all-join _ _ values-hold (all-join _ _ layouts-hold (all-join _ _ memory-hold (all-join _ _ orders-hold (all-join _ _ plan-orders-hold (all-join _ _ plans-hold (all-join _ _ no-plans-hold (all-join _ _ runs-hold listings-hold)))))))))))))))))))))
+ours-hold = all-join _ _ statics-hold (all-join _ _ drifting-hold (all-join _ _ insertions-hold (all-join _ _ gaps-hold (all-join _ _ digits-hold (all-join _ _ punches-hold (all-join _ _ punched-hold (all-join _ _ blanks-hold (all-join _ _ alignment-hold (all-join _ _ rounding-hold (all-join _ _ distances-hold (all-join _ _ readings-hold (all-join _ _ texts-hold (all-join _ _ suppressions-hold (all-join _ _ placements-hold (all-join _ _ limits-hold (all-join _ _ values-hold (all-join _ _ layouts-hold (all-join _ _ memory-hold (all-join _ _ orders-hold (all-join _ _ plan-orders-hold (all-join _ _ plans-hold (all-join _ _ no-plans-hold (all-join _ _ runs-hold listings-hold)))))))))))))))))))))))
 
 -- An input of over 65,536 bytes gives one line; of any other the lines are listed.
 

@@ -29,6 +29,11 @@ pub first-next : (n : ℕ) (ns : List ℕ) → n ≡ 0 → firstOf (n ∷ ns) �
 unfolding firstOf
 first-next n ns h = rw h
 
+pub first-one : (n : ℕ) → firstOf (n ∷ []) ≡ n
+unfolding firstOf
+first-one zero = refl
+first-one (suc n) = refl
+
 -- the first tests pass, or one of them stops
 pub first-pass : (ms ns : List ℕ) → firstOf ms ≡ 0 → firstOf (ms ++ ns) ≡ firstOf ns
 unfolding firstOf

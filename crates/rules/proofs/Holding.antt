@@ -16,15 +16,16 @@ use Rattle.rules.specs.Roles.{drifts, driftsSign, isB, isDigit, isFirstD
 use Rattle.rules.specs.Form.{Form, formOf, kindUpTo, meaning, number, numbers, rolesFrom, suppresses}
 use Rattle.rules.specs.Shape.{digitsFit, drifting, driftsBeforeV, formShape, ninesLast, oneDrifts, oneSign, oneV, pictureOf, places, shape, staticsPlaced, suppressedPlaces, suppressionApart, verdict, whole}
 use Rattle.rules.specs.Digits.{digitsOf, valueOf}
-use Rattle.rules.specs.Edit.{aligned, allSuppressible, cell, cellAt, digitAt, digitChar, driftsTo, edited, field, fill, firstShown, hasSign, inRange, inStretch, isBlank, isMinus, isShown, listOf, mark, opening, printed, start, suppressed, tooBig}
+use Rattle.rules.specs.Edit.{aligned, allSuppressible, cell, cellAt, digitAt, digitChar, driftsTo, edited, field, fill, firstShown, hasSign, inRange, inStretch, isBlank, isMinus, isShown, listOf, mark, opening, printed, quotient, roundsUp, start, suppressed, tooBig}
+use Rattle.rules.specs.Near.{apart}
 use Rattle.rules.specs.Layout.{HasPlan, accepted, closes, countFits, cut, forms, headers, planOf, positions, recordLength}
-use Rattle.rules.specs.Answers.{ReadIs, answer, answerOver, as-layout, checkAnswer, compileAnswer, compileMemory, compileNumber, editAnswer, editMemory, editNumber, editVerdicts, lentAfter, no-plan, numberOver, readAnswer, readBefore, recordAnswer, recordOf, rowAfter, rowAnswer, rowNumber, said}
+use Rattle.rules.specs.Answers.{ReadIs, answer, answerOver, as-layout, checkAnswer, compileAnswer, compileMemory, compileNumber, editAnswer, editMemory, editNumber, lentAfter, no-plan, numberOver, readAnswer, readBefore, recordAnswer, recordIn, recordOf, rowAfter, rowAnswer, rowNumber, said, verdictsIn}
 use Rattle.rules.specs.Collector.{bitsOf, bytesOf, intIn, intOf, leBytes, leValue, packed, readRunNumber, rowBytes, rowIn}
 use Rattle.rules.specs.Lister.{AllRead, Lists, ListsLines, answerLine, decimal, layoutLine, line, linesFrom, mostInput, recordLine, recordLines, trimmed}
 use Rattle.rules.specs.Good.{bears, fitsRoom, good, inOrder, marksLast, oneDollar, plainNumber, wellMade}
 use Rattle.rules.specs.Candidate.{digitIn, minusFits, readAll, readOf, shownIn, worthOf}
 use Rattle.rules.specs.PlanBytes.{allGood, formsFrom, formsIn, isPlan}
-use Rattle.rules.specs.Sheet.{All, Holds, Line, edits, refuses, editsInto, reads, rejects, accepts, forbids, keeps, compiles, spoils, compilesInto, planReads, planEdits, noPlan, packs, stores, readsRun, lists, blankFor, fieldRoom, planRoom, refusal, success}
+use Rattle.rules.specs.Sheet.{All, Holds, Line, editsBy, refusesBy, editsIntoBy, reads, rejects, accepts, forbids, keeps, compiles, spoils, compilesInto, planReads, planEdits, noPlan, differs, packs, stores, readsRun, lists, blankFor, fieldRoom, planRoom, refusal, success}
 use Rattle.rules.specs.declared.Answer.{Answer}
 use Rattle.rules.proofs.Exact.{reads-of}
 use Rattle.rules.proofs.Forms.{accepted-good, good-parts}
@@ -73,9 +74,9 @@ alone n = success n (pos 0)
 
 -- what the definitions make of it
 unfoldable pub found : Line → Outcome
-found (edits p m q f) = outcome (editAnswer (text p) m q (blankFor f)) (editMemory (text p) m q (blankFor f))
-found (refuses p m q n) = outcome (editAnswer (text p) m q fieldRoom) (editMemory (text p) m q fieldRoom)
-found (editsInto p m q out r after) = outcome (editAnswer (text p) m q (text out)) (editMemory (text p) m q (text out))
+found (editsBy w p m q f) = outcome (editAnswer w (text p) m q (blankFor f)) (editMemory w (text p) m q (blankFor f))
+found (refusesBy w p m q n) = outcome (editAnswer w (text p) m q fieldRoom) (editMemory w (text p) m q fieldRoom)
+found (editsIntoBy w p m q out r after) = outcome (editAnswer w (text p) m q (text out)) (editMemory w (text p) m q (text out))
 found (reads p f m) = outcome (readAnswer (text p) (text f) (readOf (meaning (text p)) (text f))) []
 found (rejects p f n) = outcome (readAnswer (text p) (text f) (readOf (meaning (text p)) (text f))) []
 found (accepts p n) = outcome (checkAnswer (text p)) []
@@ -93,6 +94,7 @@ found (planEdits l row out r after) =
     let room = length (text out) in
     tested (rowAnswer φs row room) (lentAfter (rowNumber φs row room) (recordOf φs row) (text out)) (accepted (text l))
 found (noPlan b) = tested (alone 0) [] (isPlan b)
+found (differs n f m q d) = outcome (alone (apart n f m q)) []
 found (packs r n) = outcome (alone (packed r)) []
 found (stores row b) = record { answered = alone 0; bytes = rowBytes row; row = rowIn (length row) b; passed = true }
 found (readsRun p f run r after) =
@@ -105,9 +107,9 @@ found (lists input out) =
 
 -- what the line says
 unfoldable pub says : Line → Outcome
-says (edits p m q f) = outcome (success (length (text f)) (pos 0)) (text f)
-says (refuses p m q n) = outcome (refusal n 0) fieldRoom
-says (editsInto p m q out r after) = outcome r (text after)
+says (editsBy w p m q f) = outcome (success (length (text f)) (pos 0)) (text f)
+says (refusesBy w p m q n) = outcome (refusal n 0) fieldRoom
+says (editsIntoBy w p m q out r after) = outcome r (text after)
 says (reads p f m) = outcome (success 1 m) []
 says (rejects p f n) = outcome (refusal n 0) []
 says (accepts p n) = outcome (success n (pos 0)) []
@@ -119,6 +121,7 @@ says (compilesInto l out r after) = outcome r after
 says (planReads l rec row r after) = byPlan r after true
 says (planEdits l row out r after) = tested r (text after) true
 says (noPlan b) = tested (alone 0) [] false
+says (differs n f m q d) = outcome (alone d) []
 says (packs r n) = outcome (alone n) []
 says (stores row b) = record { answered = alone 0; bytes = b; row = row; passed = true }
 says (readsRun p f run r after) = outcome (alone r) after
@@ -126,7 +129,7 @@ says (lists input out) = tested (alone 0) (text out) true
 
 -- A line is computed by opening every definition on the way: a law that says `unfolding definitions` opens all of these.
 unfoldable pub definitions : ℕ
-unfolding has times place any count same first last each upTo firstOf badField textFits next copies expandFrom isPunched isNine isSuppressible isDigit isFirstDrifting opens isStatic isB isSign drifts driftsSign number numbers suppresses kindUpTo rolesFrom formOf meaning oneV drifting oneDrifts suppressionApart ninesLast suppressedPlaces oneSign staticsPlaced driftsBeforeV formShape shape whole places digitsFit verdict digitsOf valueOf inRange aligned isMinus hasSign tooBig fill mark listOf digitChar printed suppressed cell opening allSuppressible digitAt isShown firstShown start inStretch driftsTo cellAt isBlank field edited checkAnswer editNumber editAnswer editMemory readAnswer digitIn shownIn worthOf minusFits readOf cut closes countFits accepted forms recordLength headers positions planOf numberOver answerOver compileNumber compileAnswer compileMemory readBefore recordAnswer rowAfter editVerdicts recordOf rowNumber rowAnswer readAll linesFrom trimmed decimal line answerLine layoutLine recordLine recordLines packed bitsOf intOf leBytes leValue bytesOf intIn rowBytes rowIn readRunNumber roomOf pictureOf plainNumber inOrder bears oneDollar marksLast fitsRoom wellMade good formsFrom formsIn allGood isPlan listingOf found says
+unfolding has times place any count same first last each upTo firstOf badField textFits next copies expandFrom isPunched isNine isSuppressible isDigit isFirstDrifting opens isStatic isB isSign drifts driftsSign number numbers suppresses kindUpTo rolesFrom formOf meaning oneV drifting oneDrifts suppressionApart ninesLast suppressedPlaces oneSign staticsPlaced driftsBeforeV formShape shape whole places digitsFit verdict digitsOf valueOf inRange roundsUp quotient aligned isMinus hasSign tooBig fill mark listOf digitChar printed suppressed cell opening allSuppressible digitAt isShown firstShown start inStretch driftsTo cellAt isBlank field edited apart checkAnswer editNumber editAnswer editMemory readAnswer digitIn shownIn worthOf minusFits readOf cut closes countFits accepted forms recordLength headers positions planOf numberOver answerOver compileNumber compileAnswer compileMemory readBefore recordAnswer rowAfter verdictsIn recordIn rowNumber rowAnswer readAll linesFrom trimmed decimal line answerLine layoutLine recordLine recordLines packed bitsOf intOf leBytes leValue bytesOf intIn rowBytes rowIn readRunNumber roomOf pictureOf plainNumber inOrder bears oneDollar marksLast fitsRoom wellMade good formsFrom formsIn allGood isPlan listingOf found says
 definitions = 0
 
 -- Where the two are equal the line holds.
@@ -157,9 +160,9 @@ its-plan l h = record { layout = h; plan = refl }
 
 holds : (l : Line) → found l ≡ says l → Holds l
 unfolding Holds found says
-holds (edits p m q f) e = (answers _ _ e, leaves _ _ e)
-holds (refuses p m q n) e = (answers _ _ e, leaves _ _ e)
-holds (editsInto p m q out r after) e = (answers _ _ e, leaves _ _ e)
+holds (editsBy w p m q f) e = (answers _ _ e, leaves _ _ e)
+holds (refusesBy w p m q n) e = (answers _ _ e, leaves _ _ e)
+holds (editsIntoBy w p m q out r after) e = (answers _ _ e, leaves _ _ e)
 holds (reads p f m) e = reads-by (text p) (text f) _ (answers _ _ e)
 holds (rejects p f n) e = reads-by (text p) (text f) _ (answers _ _ e)
 holds (accepts p n) e = answers _ _ e
@@ -182,6 +185,7 @@ holds (planEdits l row out r after) e =
 holds (noPlan b) e =
     let no = no-layout b (passes _ _ e) in
     (λ rec row. no-plan no (refl, refl), λ row out. no-plan no (refl, refl))
+holds (differs n f m q d) e = numbers-alone _ _ e
 holds (packs r n) e = numbers-alone _ _ e
 holds (stores row b) e = (leaves _ _ e, rows _ _ e)
 holds (readsRun p f run r after) e = record {

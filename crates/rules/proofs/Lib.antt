@@ -3,6 +3,8 @@ pub mod Logic
 pub mod Lists
 pub mod Search
 pub mod Digits
+pub mod Quotient
+pub mod Magnitudes
 pub mod Powers
 pub mod Firsts
 pub mod Expand
@@ -18,7 +20,9 @@ pub mod Stretch
 pub mod Fields
 pub mod Unique
 pub mod Exact
+pub mod Modes
 pub mod PlanWalk
 pub mod Outcomes
+pub mod Back
 pub mod Holding
 pub mod Examples

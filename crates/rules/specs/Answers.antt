@@ -8,6 +8,8 @@ use lib.IntN.{ℤ, pos}
 use lib.Dec.{ltb, eqb}
 use lib.ListN.{length, take, drop}
 use Rattle.rules.specs.declared.Answer.{Answer}
+use Rattle.rules.specs.declared.Rounding.{Rounding}
+use Rattle.rules.specs.declared.Rounding.the-variants.{HalfAway}
 use Rattle.rules.specs.Numbers.{VALUE, ROOM, SIZE, LENGTH, CONVERSION, COUNT, PLAN, when, unless, firstOf, badField}
 use Rattle.rules.specs.Form.{Form, size, meaning}
 use Rattle.rules.specs.Shape.{places, verdict}
@@ -31,20 +33,20 @@ lentAfter (suc n) written lent = lent
 unfoldable pub checkAnswer : List ℕ → Answer
 checkAnswer t = answer (verdict t) 0 (size (meaning t)) (pos 0)
 
--- RULES 6.6, editing: picture, 6, 8, 7
-unfoldable pub editNumber : List ℕ → ℤ → ℕ → ℕ → ℕ
-editNumber t m q room =
+-- RULES 6.6, editing, in rounding or by the cut: picture, 6, 8, 7
+unfoldable pub editNumber : Rounding → List ℕ → ℤ → ℕ → ℕ → ℕ
+editNumber w t m q room =
     firstOf (
     verdict t ∷
     unless (inRange m q) VALUE ∷
-    when (tooBig (meaning t) m q) SIZE ∷
+    when (tooBig w (meaning t) m q) SIZE ∷
     when (ltb room (size (meaning t))) ROOM ∷ [])
 
-unfoldable pub editAnswer : List ℕ → ℤ → ℕ → List ℕ → Answer
-editAnswer t m q out = answer (editNumber t m q (length out)) 0 (size (meaning t)) (pos 0)
+unfoldable pub editAnswer : Rounding → List ℕ → ℤ → ℕ → List ℕ → Answer
+editAnswer w t m q out = answer (editNumber w t m q (length out)) 0 (size (meaning t)) (pos 0)
 
-unfoldable pub editMemory : List ℕ → ℤ → ℕ → List ℕ → List ℕ
-editMemory t m q out = lentAfter (editNumber t m q (length out)) (edited (meaning t) m q) out
+unfoldable pub editMemory : Rounding → List ℕ → ℤ → ℕ → List ℕ → List ℕ
+editMemory w t m q out = lentAfter (editNumber w t m q (length out)) (edited w (meaning t) m q) out
 
 -- CONVERSION where a field says nothing, and the value that it says
 abbrev pub unread : Option ℤ → ℕ
@@ -135,25 +137,34 @@ notPlan lent r after = (r ≡ answer PLAN 0 0 (pos 0)) × (after ≡ lent)
 abbrev pub PlanReadIs : List ℕ → List ℕ → List ℤ → Answer → List ℤ → Type 0
 PlanReadIs b rec row r after = ByPlan b (notPlan row r after) (λ φs. RecordIs φs rec row r after)
 
--- 6 before 8 within a field, the value at the field's own scale
-abbrev pub fieldNumber : Form → ℤ → ℕ
-fieldNumber φ m = firstOf (unless (inRange m (places φ)) VALUE ∷ when (tooBig φ m (places φ)) SIZE ∷ [])
-
--- and its characters
-abbrev pub fieldOf : Form → ℤ → List ℕ
-fieldOf φ m = edited φ m (places φ)
+-- 6 before 8 within a field, the value at the field's own scale, in this mode
+abbrev pub numberIn : Rounding → Form → ℤ → ℕ
+numberIn w φ m = firstOf (unless (inRange m (places φ)) VALUE ∷ when (tooBig w φ m (places φ)) SIZE ∷ [])
 
 -- the number that each field's value gets
-unfoldable pub editVerdicts : List Form → List ℤ → List ℕ
-editVerdicts [] row = []
-editVerdicts (φ ∷ φs) [] = []
-editVerdicts (φ ∷ φs) (m ∷ ms) = fieldNumber φ m ∷ editVerdicts φs ms
+unfoldable pub verdictsIn : Rounding → List Form → List ℤ → List ℕ
+verdictsIn w [] row = []
+verdictsIn w (φ ∷ φs) [] = []
+verdictsIn w (φ ∷ φs) (m ∷ ms) = numberIn w φ m ∷ verdictsIn w φs ms
 
 -- the fields of the row's values, one after the other
-unfoldable pub recordOf : List Form → List ℤ → List ℕ
-recordOf [] row = []
-recordOf (φ ∷ φs) [] = []
-recordOf (φ ∷ φs) (m ∷ ms) = fieldOf φ m ++ recordOf φs ms
+unfoldable pub recordIn : Rounding → List Form → List ℤ → List ℕ
+recordIn w [] row = []
+recordIn w (φ ∷ φs) [] = []
+recordIn w (φ ∷ φs) (m ∷ ms) = edited w φ m (places φ) ++ recordIn w φs ms
+
+-- RULES 5.5: at its own scale a field is the same in both modes (`own-modes` in proofs/Modes.antt), and rounding stands for either
+abbrev pub fieldNumber : Form → ℤ → ℕ
+fieldNumber φ m = numberIn HalfAway φ m
+
+abbrev pub fieldOf : Form → ℤ → List ℕ
+fieldOf φ m = edited HalfAway φ m (places φ)
+
+abbrev pub editVerdicts : List Form → List ℤ → List ℕ
+editVerdicts φs row = verdictsIn HalfAway φs row
+
+abbrev pub recordOf : List Form → List ℤ → List ℕ
+recordOf φs row = recordIn HalfAway φs row
 
 -- RULES 6.6, editing a row: behind PLAN 9, the fields, 7
 unfoldable pub rowNumber : List Form → List ℤ → ℕ → ℕ

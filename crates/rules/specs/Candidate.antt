@@ -5,7 +5,7 @@ use mathlib.Core.Bool.{Bool, true, false, cond, _&&_}
 use mathlib.Core.List.{List, [], _∷_}
 use mathlib.Core.Option.{Option, none, some}
 use Prim.Native.Nat.{ℕ, _/_, _%_, _^_, _<_}
-use lib.IntN.{ℤ, pos, negℤ}
+use lib.IntN.{ℤ}
 use lib.Dec.{ltb}
 use lib.ListN.{getD, take, drop}
 use Rattle.rules.specs.declared.Reading.{Reading}
@@ -15,7 +15,7 @@ use Rattle.rules.specs.Digits.{valueOf}
 use Rattle.rules.specs.Roles.{isDigit}
 use Rattle.rules.specs.Form.{Form, size}
 use Rattle.rules.specs.Shape.{digitCount}
-use Rattle.rules.specs.Edit.{figures, hasSign, field}
+use Rattle.rules.specs.Edit.{figures, hasSign, field, signed}
 
 -- what a character is worth as a digit: its place in its list of ten; one that is in no list has the place 30, and so is worth 0
 unfoldable pub digitIn : ℕ → ℕ
@@ -37,11 +37,6 @@ shown φ f = shownIn (φ .roles) f
 
 unfoldable pub worthOf : Form → List ℕ → ℕ
 worthOf φ f = valueOf (shown φ f)
-
--- the number with this sign and magnitude; zero has no sign
-abbrev pub signed : Bool → ℕ → ℤ
-signed false t = pos t
-signed true t = negℤ (pos t)
 
 -- a sign and a magnitude that a value at the picture's own scale can have
 pub record Fits (φ : Form) (negative : Bool) (t : ℕ) : Type 0 where

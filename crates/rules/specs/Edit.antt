@@ -1,17 +1,19 @@
 -- RULES 3, from value to field. Assumes nothing.
 use mathlib.Core.Bool.{Bool, true, false, cond, not, _&&_, _||_}
 use mathlib.Core.List.{List}
-use Prim.Native.Nat.{ℕ, _+_, _*_, _/_, _^_}
+use Prim.Native.Nat.{ℕ, _+_, _*_, _/_, _%_, _^_}
 use Prim.Native.Char.{code}
-use lib.IntN.{ℤ, pos, negsuc, natAbs}
+use lib.IntN.{ℤ, pos, negsuc, negℤ, natAbs}
 use lib.Dec.{leb, ltb, eqb}
 use lib.ListN.{getD, take}
-use Rattle.rules.specs.Words.{text, any, count}
+use Rattle.rules.specs.declared.Rounding.{Rounding}
+use Rattle.rules.specs.declared.Rounding.the-variants.{HalfAway, Cut}
+use Rattle.rules.specs.Words.{text, any, count, one}
 use Rattle.rules.specs.Search.{first, last, upTo}
 use Rattle.rules.specs.Digits.{digitsOf}
 use Rattle.rules.specs.Roles.{isNine, isDigit, isB, opens, isSign, drifts, driftsSign}
 use Rattle.rules.specs.Form.{Form, size, roleAt}
-use Rattle.rules.specs.Shape.{mostDigits, digitCount, whole, places}
+use Rattle.rules.specs.Shape.{mostDigits, digitCount, places}
 
 -- RULES 3.1: no scale is larger than the number of digits that a picture may have
 abbrev pub mostScale : ℕ
@@ -25,21 +27,35 @@ abbrev pub isNegative : ℤ → Bool
 isNegative (pos n) = false
 isNegative (negsuc n) = true
 
--- RULES 3.2: the magnitude at the picture's scale without its fraction
-unfoldable pub aligned : Form → ℤ → ℕ → ℕ
-aligned φ m q = natAbs m * 10 ^ places φ / 10 ^ q
+-- the number with this sign and magnitude; zero has no sign
+abbrev pub signed : Bool → ℕ → ℤ
+signed false t = pos t
+signed true t = negℤ (pos t)
+
+-- RULES 3.2: a fraction, as what is left of a division by d, counts as one
+unfoldable pub roundsUp : Rounding → ℕ → ℕ → Bool
+roundsUp HalfAway rest d = leb d (2 * rest)
+roundsUp Cut rest d = false
+
+-- the division in this mode
+unfoldable pub quotient : Rounding → ℕ → ℕ → ℕ
+quotient w x d = x / d + one (roundsUp w (x % d) d)
+
+-- the magnitude at the picture's scale
+unfoldable pub aligned : Rounding → Form → ℤ → ℕ → ℕ
+aligned w φ m q = quotient w (natAbs m * 10 ^ places φ) (10 ^ q)
 
 -- RULES 3.3: zero has the sign plus
-unfoldable pub isMinus : Form → ℤ → ℕ → Bool
-isMinus φ m q = isNegative m && not (eqb (aligned φ m q) 0)
+unfoldable pub isMinus : Rounding → Form → ℤ → ℕ → Bool
+isMinus w φ m q = isNegative m && not (eqb (aligned w φ m q) 0)
 
 -- the picture has a sign
 unfoldable pub hasSign : Form → Bool
 hasSign φ = any isSign (φ .roles) || driftsSign (φ .kind)
 
--- RULES 3.4: too many digits before the point, or a minus for which the picture has no sign
-unfoldable pub tooBig : Form → ℤ → ℕ → Bool
-tooBig φ m q = leb (10 ^ whole φ) (natAbs m / 10 ^ q) || ltb 0 (aligned φ m q) && isNegative m && not (hasSign φ)
+-- RULES 3.4: more digits than the picture has, or a minus for which it has no sign
+unfoldable pub tooBig : Rounding → Form → ℤ → ℕ → Bool
+tooBig w φ m q = leb (10 ^ digitCount φ) (aligned w φ m q) || isMinus w φ m q && not (hasSign φ)
 
 -- RULES 3.6: the fill
 unfoldable pub fill : ℕ → ℕ
@@ -136,5 +152,5 @@ module _ (φ : Form) where
       (upTo (size φ) (λ k. cellAt (digitsOf (digitCount φ) t) negative k))
 
 -- the field of M at scale q
-unfoldable pub edited : Form → ℤ → ℕ → List ℕ
-edited φ m q = field φ (isMinus φ m q) (aligned φ m q)
+unfoldable pub edited : Rounding → Form → ℤ → ℕ → List ℕ
+edited w φ m q = field φ (isMinus w φ m q) (aligned w φ m q)

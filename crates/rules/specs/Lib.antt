@@ -7,6 +7,7 @@ pub mod Form
 pub mod Shape
 pub mod Edit
 pub mod Read
+pub mod Near
 pub mod Layout
 pub mod Numbers
 pub mod Answers

@@ -7,7 +7,7 @@ use mathlib.Core.List.{List, [], _∷_, _++_}
 use lib.IntN.{ℤ, pos}
 use lib.ListN.{replicate}
 use Rattle.rules.specs.Words.{text}
-use Rattle.rules.specs.Sheet.{Line, accepts, compiles, compilesInto, edits, editsInto, forbids, joined, keeps, lists, minus, noPlan, packs, planEdits, planReads, reads, readsRun, refusal, refuses, rejects, repeated, series, spoils, stores, success}
+use Rattle.rules.specs.Sheet.{Line, accepts, compiles, compilesInto, cutRefuses, cuts, cutsInto, differs, edits, editsInto, forbids, joined, keeps, lists, minus, noPlan, packs, planEdits, planReads, reads, readsRun, refusal, refuses, rejects, repeated, series, spoils, stores, success}
 
 -- RULES 3.12: each sign and the dollar sign standing still, before the digits and behind them, with both signs.
 abbrev pub statics : List Line
@@ -220,9 +220,9 @@ punched =
     edits "ZZV.9T" (pos 5) 2 "  .0E" ∷
     edits "$$,$$T" (pos 5) 0 "    $E" ∷
     edits "$$$R" (minus 12) 0 " $1K" ∷
-    edits "T" (minus 9) 1 "{" ∷
-    edits "I" (minus 9) 1 "{" ∷
-    edits "R" (minus 9) 1 "0" ∷
+    cuts "T" (minus 9) 1 "{" ∷
+    cuts "I" (minus 9) 1 "{" ∷
+    cuts "R" (minus 9) 1 "0" ∷
     refuses "T" (pos 10) 0 8 ∷
     refuses "9R" (minus 100) 0 8 ∷
     reads "9T" "1{" (pos 10) ∷
@@ -250,9 +250,9 @@ abbrev pub blanks : List Line
 blanks =
     edits "S$Z,Z.Z/ZBZ" (pos 0) 0 "           " ∷
     edits "S$*,*.*/*B*" (pos 0) 0 "********* *" ∷
-    edits "ZZCR" (minus 9) 1 "    " ∷
+    cuts "ZZCR" (minus 9) 1 "    " ∷
     edits "ZZDB" (pos 0) 0 "    " ∷
-    edits "**CR" (minus 9) 1 "****" ∷
+    cuts "**CR" (minus 9) 1 "****" ∷
     edits "**DB" (pos 0) 0 "****" ∷
     edits "+ZZ" (pos 0) 0 "   " ∷
     edits "+**" (pos 0) 0 "***" ∷
@@ -269,27 +269,102 @@ blanks =
     rejects "***" "   " 10 ∷
     rejects "$ZZ" "$  " 10 ∷ []
 
--- RULES 3.2 to 3.4: the cut toward zero, the sign plus of a zero, and what is too big.
+-- RULES 3.2 to 3.4, by the cut: a fraction goes toward zero, a zero has the sign plus, and what is then too big is refused.
 abbrev pub alignment : List Line
 alignment =
-    edits "S9V9" (pos 199) 2 "+19" ∷
-    edits "S9V9" (minus 199) 2 "-19" ∷
+    cuts "S9V9" (pos 199) 2 "+19" ∷
+    cuts "S9V9" (minus 199) 2 "-19" ∷
+    cuts "9V99" (pos 5) 0 "500" ∷
+    cuts "S9" (minus 9) 1 "+0" ∷
+    cuts "+9" (minus 9) 1 "+0" ∷
+    cuts "-9" (minus 9) 1 " 0" ∷
+    cuts "9CR" (minus 9) 1 "0  " ∷
+    cuts "9DB" (minus 9) 1 "0  " ∷
+    cuts "SS9" (minus 9) 1 " +0" ∷
+    cuts "++9" (minus 9) 1 " +0" ∷
+    cuts "--9" (minus 9) 1 "  0" ∷
+    cuts "9" (pos 5) 1 "0" ∷
+    cuts "99" (pos 995) 1 "99" ∷
+    cuts "9" (pos 99) 1 "9" ∷
+    cutRefuses "9" (pos 100) 1 8 ∷
+    cuts "V99" (pos 9999) 4 "99" ∷
+    cutRefuses "V99" (pos 1) 0 8 ∷
+    cutRefuses "S99" (minus 100) 0 8 ∷
+    cuts "$ZV9" (minus 9) 2 "$ 0" ∷
+    cutRefuses "$ZV9" (minus 10) 2 8 ∷ []
+
+-- The same in rounding, here and there beside the cut.
+abbrev pub rounding : List Line
+rounding =
+    -- a half, and what is next to it on either side, under both signs; behind an even digit and behind an odd one
+    edits "9" (pos 5) 1 "1" ∷
+    edits "9" (pos 4) 1 "0" ∷
+    edits "9" (pos 49) 2 "0" ∷
+    edits "9" (pos 51) 2 "1" ∷
+    edits "9" (pos 15) 1 "2" ∷
+    edits "9" (pos 25) 1 "3" ∷
+    edits "-9" (minus 5) 1 "-1" ∷
+    edits "-9" (minus 4) 1 " 0" ∷
+    edits "-9" (minus 49) 2 " 0" ∷
+    edits "-9" (minus 51) 2 "-1" ∷
+    edits "-9" (minus 15) 1 "-2" ∷
+    edits "-9" (minus 25) 1 "-3" ∷
+    edits "S9V9" (pos 194) 2 "+19" ∷
+    edits "S9V9" (minus 195) 2 "-20" ∷
+    edits "9" (pos 499999999999999999) 18 "0" ∷
+    edits "9" (pos 500000000000000000) 18 "1" ∷
+    edits "9V(17)9" (pos 123456789012345678) 18 "012345678901234568" ∷
+    -- nothing to round
     edits "9V99" (pos 5) 0 "500" ∷
-    edits "S9" (minus 9) 1 "+0" ∷
-    edits "+9" (minus 9) 1 "+0" ∷
-    edits "-9" (minus 9) 1 " 0" ∷
-    edits "9CR" (minus 9) 1 "0  " ∷
-    edits "9DB" (minus 9) 1 "0  " ∷
-    edits "SS9" (minus 9) 1 " +0" ∷
-    edits "++9" (minus 9) 1 " +0" ∷
-    edits "--9" (minus 9) 1 "  0" ∷
-    edits "9" (pos 99) 1 "9" ∷
+    edits "9V99" (pos 55) 1 "550" ∷
+    edits "9V99" (pos 555) 2 "555" ∷
+    -- one more than nines
+    edits "99V9" (pos 995) 2 "100" ∷
+    edits "ZZ9V.99" (pos 9995) 3 " 10.00" ∷
+    edits "ZZ,ZZ9" (pos 9995) 1 " 1,000" ∷
+    edits "$$,$$9" (pos 9995) 1 "$1,000" ∷
+    edits "(18)9" (pos 999999999999999999) 1 "100000000000000000" ∷
+    -- which may be too big
+    edits "99V9" (pos 9994) 2 "999" ∷
+    edits "9" (pos 94) 1 "9" ∷
+    refuses "9" (pos 95) 1 8 ∷
+    refuses "99" (pos 995) 1 8 ∷
     refuses "9" (pos 100) 1 8 ∷
-    edits "V99" (pos 9999) 4 "99" ∷
-    refuses "V99" (pos 1) 0 8 ∷
-    refuses "S99" (minus 100) 0 8 ∷
-    edits "$ZV9" (minus 9) 2 "$ 0" ∷
-    refuses "$ZV9" (minus 10) 2 8 ∷ []
+    edits "V9" (pos 94) 2 "9" ∷
+    refuses "V9" (pos 95) 2 8 ∷
+    edits "V(17)9" (pos 999999999999999994) 18 "99999999999999999" ∷
+    refuses "V(17)9" (pos 999999999999999995) 18 8 ∷
+    -- the sign is that of what is left, and a picture without one takes a zero
+    edits "S999" (minus 1) 1 "+000" ∷
+    edits "S999" (minus 5) 1 "-001" ∷
+    cuts "S999" (minus 5) 1 "+000" ∷
+    edits "99" (minus 4) 1 "00" ∷
+    refuses "99" (minus 5) 1 8 ∷
+    cuts "99" (minus 5) 1 "00" ∷
+    edits "9CR" (minus 4) 1 "0  " ∷
+    edits "9CR" (minus 5) 1 "1CR" ∷
+    edits "++9" (minus 4) 1 " +0" ∷
+    edits "++9" (minus 5) 1 "  1" ∷
+    edits "T" (minus 4) 1 "{" ∷
+    edits "T" (minus 5) 1 "J" ∷
+    edits "I" (minus 4) 1 "{" ∷
+    edits "I" (minus 5) 1 "1" ∷
+    -- everything is suppressed where nothing is left
+    edits "ZZZ" (pos 4) 1 "   " ∷
+    edits "ZZZ" (pos 5) 1 "  1" ∷
+    edits "**CR" (minus 4) 1 "****" ∷
+    edits "**CR" (minus 5) 1 "*1CR" ∷ []
+
+-- RULES 4.5: how far two values are apart, the second one's scale being that of one in the first one's last place.
+abbrev pub distances : List Line
+distances =
+    differs (pos 1) 0 (pos 5) 1 5 ∷
+    differs (pos 0) 0 (pos 4) 1 4 ∷
+    differs (minus 1) 0 (pos 5) 1 15 ∷
+    differs (minus 1) 0 (minus 5) 1 5 ∷
+    differs (minus 20) 1 (minus 195) 2 50 ∷
+    differs (pos 1234) 1 (pos 12345) 2 50 ∷
+    differs (pos 550) 2 (pos 55) 1 0 ∷ []
 
 -- RULES 4: reading takes each symbol's characters for both signs, and nothing else: no minus zero, no blank for a nine, no other fill.
 abbrev pub readings : List Line
@@ -578,7 +653,8 @@ values =
     refuses "9V(17)9" (pos 10) 0 8 ∷
     edits "9V(17)9" (pos 9) 0 "900000000000000000" ∷
     edits "V(18)9" (pos 999999999999999999) 18 "999999999999999999" ∷
-    edits "9" (pos 999999999999999999) 18 "0" ∷
+    edits "9" (pos 999999999999999999) 18 "1" ∷
+    cuts "9" (pos 999999999999999999) 18 "0" ∷
     -- by plans, into a run and in a listing
     compiles "(18)9;" (1 ∷ 18 ∷ 18 ∷ 0 ∷ 0 ∷ 18 ∷ replicate 18 0) ∷
     planReads "S(18)9;S(18)9;" "+999999999999999999-999999999999999999" (pos 5 ∷ pos 5 ∷ []) (success 2 (pos 0)) (pos 999999999999999999 ∷ minus 999999999999999999 ∷ []) ∷
@@ -610,6 +686,11 @@ memory =
     editsInto "99" (pos 7) 0 "####" (success 2 (pos 0)) "07##" ∷
     editsInto "99" (pos 7) 0 "#" (refusal 7 0) "#" ∷
     editsInto "99" (pos 100) 0 "####" (refusal 8 0) "####" ∷
+    editsInto "99" (pos 75) 1 "####" (success 2 (pos 0)) "08##" ∷
+    editsInto "99" (pos 995) 1 "####" (refusal 8 0) "####" ∷
+    cutsInto "99" (pos 75) 1 "####" (success 2 (pos 0)) "07##" ∷
+    cutsInto "99" (pos 75) 1 "#" (refusal 7 0) "#" ∷
+    cutsInto "99" (pos 1000) 1 "####" (refusal 8 0) "####" ∷
     compilesInto "9;" (replicate 8 99) (success 7 (pos 0)) (1 ∷ 1 ∷ 1 ∷ 0 ∷ 0 ∷ 1 ∷ 0 ∷ 99 ∷ []) ∷
     compilesInto "9;" (replicate 6 99) (refusal 7 0) (replicate 6 99) ∷
     compilesInto "9Z;" (replicate 8 99) (refusal 4 1) (replicate 8 99) ∷
@@ -634,6 +715,14 @@ orders =
     refuses "9" (pos 100) 19 6 ∷
     editsInto "9" (pos 10) 0 "" (refusal 8 0) "" ∷
     editsInto "9" (pos 9) 0 "" (refusal 7 0) "" ∷
+    editsInto "9" (pos 95) 1 "" (refusal 8 0) "" ∷
+    -- by the cut: the same
+    cutRefuses "9Z" (pos 1000000000000000000) 0 4 ∷
+    cutRefuses "(19)9" (pos 1) 19 5 ∷
+    cutRefuses "9" (minus 1000000000000000000) 0 6 ∷
+    cutRefuses "9" (pos 100) 19 6 ∷
+    cutsInto "9" (pos 10) 0 "" (refusal 8 0) "" ∷
+    cutsInto "9" (pos 95) 1 "" (refusal 7 0) "" ∷
     -- reading a field: picture, 9, 10
     rejects "9Z" "x" 4 ∷
     rejects "(19)9" "" 5 ∷
@@ -773,4 +862,4 @@ listings =
 
 -- All of them as one list.
 abbrev pub ours : List Line
-ours = statics ++ drifting ++ insertions ++ gaps ++ digits ++ punches ++ punched ++ blanks ++ alignment ++ readings ++ texts ++ suppressions ++ placements ++ limits ++ values ++ layouts ++ memory ++ orders ++ planOrders ++ plans ++ noPlans ++ runs ++ listings
+ours = statics ++ drifting ++ insertions ++ gaps ++ digits ++ punches ++ punched ++ blanks ++ alignment ++ rounding ++ distances ++ readings ++ texts ++ suppressions ++ placements ++ limits ++ values ++ layouts ++ memory ++ orders ++ planOrders ++ plans ++ noPlans ++ runs ++ listings

@@ -9,10 +9,13 @@ use mathlib.Core.List.{List, [], _∷_, _++_}
 use lib.IntN.{ℤ, pos, negℤ}
 use lib.ListN.{length, replicate}
 use Rattle.rules.specs.declared.Answer.{Answer}
+use Rattle.rules.specs.declared.Rounding.{Rounding}
+use Rattle.rules.specs.declared.Rounding.the-variants.{HalfAway, Cut}
 use Rattle.rules.specs.Words.{text}
 use Rattle.rules.specs.Shape.{pictureOf}
 use Rattle.rules.specs.Layout.{forms, planOf}
 use Rattle.rules.specs.Answers.{PlanEditIs, PlanReadIs, ReadIs, checkAnswer, compileAnswer, compileMemory, editAnswer, editMemory}
+use Rattle.rules.specs.Near.{apart}
 use Rattle.rules.specs.Collector.{ReadRunIs, packed, rowBytes, rowIn}
 use Rattle.rules.specs.Lister.{Lists}
 
@@ -37,12 +40,12 @@ abbrev pub success : ℕ → ℤ → Answer
 success length m = record { number = 0; field = 0; length = length; value = m }
 
 pub data Line : Type 0 where
-  -- the picture edits M at scale q to the field, in an output of just its length
-  edits : String → ℤ → ℕ → String → Line
-  -- the picture refuses M at scale q with this number, and leaves an output of 64 places
-  refuses : String → ℤ → ℕ → ℕ → Line
-  -- editing into an output with this content gives this answer, and the output then holds that
-  editsInto : String → ℤ → ℕ → String → Answer → String → Line
+  -- in this mode the picture edits M at scale q to the field, in an output of just its length
+  editsBy : Rounding → String → ℤ → ℕ → String → Line
+  -- in this mode the picture refuses M at scale q with this number, and leaves an output of 64 places
+  refusesBy : Rounding → String → ℤ → ℕ → ℕ → Line
+  -- editing in this mode into an output with this content gives this answer, and the output then holds that
+  editsIntoBy : Rounding → String → ℤ → ℕ → String → Answer → String → Line
   -- the picture reads the field as this value
   reads : String → String → ℤ → Line
   -- the picture refuses the field with this number
@@ -63,12 +66,33 @@ pub data Line : Type 0 where
   planEdits : String → List ℤ → String → Answer → String → Line
   -- the bytes are no plan: whatever the record, the row and the output are, both calls give 12 and leave them
   noPlan : List ℕ → Line
+  -- the first value at its scale is this far from the second
+  differs : ℤ → ℕ → ℤ → ℕ → ℕ → Line
   -- the answer as one number, a row as bytes and back, and a field read into a run, which then holds that
   packs : Answer → ℕ → Line
   stores : List ℤ → List ℕ → Line
   readsRun : String → String → List ℕ → ℕ → List ℕ → Line
   -- the input has this listing
   lists : String → String → Line
+
+-- RULES 3.2: what is edited is rounded, where the line doesn't ask for the cut
+abbrev pub edits : String → ℤ → ℕ → String → Line
+edits = editsBy HalfAway
+
+abbrev pub cuts : String → ℤ → ℕ → String → Line
+cuts = editsBy Cut
+
+abbrev pub refuses : String → ℤ → ℕ → ℕ → Line
+refuses = refusesBy HalfAway
+
+abbrev pub cutRefuses : String → ℤ → ℕ → ℕ → Line
+cutRefuses = refusesBy Cut
+
+abbrev pub editsInto : String → ℤ → ℕ → String → Answer → String → Line
+editsInto = editsIntoBy HalfAway
+
+abbrev pub cutsInto : String → ℤ → ℕ → String → Answer → String → Line
+cutsInto = editsIntoBy Cut
 
 -- a lent output of just the field's length, with nothing in it yet
 abbrev pub blankFor : String → List ℕ
@@ -82,10 +106,10 @@ abbrev pub planRoom : List ℕ
 planRoom = replicate 2147 0
 
 unfoldable pub Holds : Line → Type 0
-Holds (edits p m q f) =
-    (editAnswer (text p) m q (blankFor f) ≡ success (length (text f)) (pos 0)) × (editMemory (text p) m q (blankFor f) ≡ text f)
-Holds (refuses p m q n) = (editAnswer (text p) m q fieldRoom ≡ refusal n 0) × (editMemory (text p) m q fieldRoom ≡ fieldRoom)
-Holds (editsInto p m q out r after) = (editAnswer (text p) m q (text out) ≡ r) × (editMemory (text p) m q (text out) ≡ text after)
+Holds (editsBy w p m q f) =
+    (editAnswer w (text p) m q (blankFor f) ≡ success (length (text f)) (pos 0)) × (editMemory w (text p) m q (blankFor f) ≡ text f)
+Holds (refusesBy w p m q n) = (editAnswer w (text p) m q fieldRoom ≡ refusal n 0) × (editMemory w (text p) m q fieldRoom ≡ fieldRoom)
+Holds (editsIntoBy w p m q out r after) = (editAnswer w (text p) m q (text out) ≡ r) × (editMemory w (text p) m q (text out) ≡ text after)
 Holds (reads p f m) = ReadIs (text p) (text f) (success 1 m)
 Holds (rejects p f n) = ReadIs (text p) (text f) (refusal n 0)
 Holds (accepts p n) = checkAnswer (text p) ≡ success n (pos 0)
@@ -99,6 +123,7 @@ Holds (planReads l rec row r after) = PlanReadIs (planOf (forms (text l))) (text
 Holds (planEdits l row out r after) = PlanEditIs (planOf (forms (text l))) row (text out) r (text after)
 Holds (noPlan b) =
     ((rec : List ℕ) (row : List ℤ) → PlanReadIs b rec row (refusal 12 0) row) × ((row : List ℤ) (out : List ℕ) → PlanEditIs b row out (refusal 12 0) out)
+Holds (differs n f m q d) = apart n f m q ≡ d
 Holds (packs r n) = packed r ≡ n
 Holds (stores row bytes) = (rowBytes row ≡ bytes) × (rowIn (length row) bytes ≡ row)
 Holds (readsRun p f run r after) = ReadRunIs (text p) (text f) run r after
@@ -111,21 +136,21 @@ All (l ∷ ls) = Holds l × All ls
 abbrev pub minus : ℕ → ℤ
 minus n = negℤ (pos n)
 
--- The customers' lines of which they ask a proof.
+-- The customers' lines of which they ask a proof. Their editing asks for the cut.
 abbrev pub sheet : List Line
 sheet =
-    edits "ZZ9V.99" (pos 1234) 2 " 12.34" ∷
-    edits "ZZ9V.99" (pos 0) 0 "  0.00" ∷
-    edits "ZZZV.ZZ" (pos 0) 0 "      " ∷
-    edits "ZZZV.ZZ" (pos 1) 2 "   .01" ∷
-    edits "ZZZ.VZZ" (pos 1) 2 "    01" ∷
-    edits "$$,$$9" (pos 123) 0 "  $123" ∷
-    edits "$$,$$9" (pos 1234) 0 "$1,234" ∷
-    edits "$$,$$9" (pos 0) 0 "    $0" ∷
-    edits "***9CR" (minus 5) 0 "***5CR" ∷
-    edits "***9CR" (pos 5) 0 "***5  " ∷
-    edits "---9" (minus 7) 0 "  -7" ∷
-    edits "+++9" (minus 7) 0 "   7" ∷
+    cuts "ZZ9V.99" (pos 1234) 2 " 12.34" ∷
+    cuts "ZZ9V.99" (pos 0) 0 "  0.00" ∷
+    cuts "ZZZV.ZZ" (pos 0) 0 "      " ∷
+    cuts "ZZZV.ZZ" (pos 1) 2 "   .01" ∷
+    cuts "ZZZ.VZZ" (pos 1) 2 "    01" ∷
+    cuts "$$,$$9" (pos 123) 0 "  $123" ∷
+    cuts "$$,$$9" (pos 1234) 0 "$1,234" ∷
+    cuts "$$,$$9" (pos 0) 0 "    $0" ∷
+    cuts "***9CR" (minus 5) 0 "***5CR" ∷
+    cuts "***9CR" (pos 5) 0 "***5  " ∷
+    cuts "---9" (minus 7) 0 "  -7" ∷
+    cuts "+++9" (minus 7) 0 "   7" ∷
     rejects "ZZ9" "   " 10 ∷
     rejects "ZZ9" "007" 10 ∷
     reads "ZZ9" "  7" (pos 7) ∷
@@ -134,14 +159,16 @@ sheet =
 -- Their others, the plan of a layout and the listing among them.
 abbrev pub others : List Line
 others =
-    edits "S999" (minus 1) 1 "+000" ∷
-    edits "(3)9V9" (pos 12345) 2 "1234" ∷
-    edits "99" (pos 99) 0 "99" ∷
-    refuses "99" (pos 100) 0 8 ∷
-    refuses "99" (minus 1) 0 8 ∷
-    edits "99" (minus 9) 1 "00" ∷
-    edits "**B**" (pos 5) 0 "** *5" ∷
-    edits "$$B$$9" (pos 123) 0 " $ 123" ∷
+    cuts "S999" (minus 1) 1 "+000" ∷
+    cuts "(3)9V9" (pos 12345) 2 "1234" ∷
+    cuts "99" (pos 99) 0 "99" ∷
+    cutRefuses "99" (pos 100) 0 8 ∷
+    cutRefuses "99" (minus 1) 0 8 ∷
+    cuts "99" (minus 9) 1 "00" ∷
+    cuts "99V9" (pos 9995) 2 "999" ∷
+    refuses "99V9" (pos 9995) 2 8 ∷
+    cuts "**B**" (pos 5) 0 "** *5" ∷
+    cuts "$$B$$9" (pos 123) 0 " $ 123" ∷
     forbids "(64)9" 5 ∷
     forbids "(64)9V" 3 ∷
     accepts "(18)9" 18 ∷

@@ -102,6 +102,14 @@ pub const MOST_LAYOUT: usize = 4128;
 
 pub const MOST_INPUT: usize = 65536;
 
+// What becomes of a fraction that a picture has no places for (RULES 3.2).
+pub enum Rounding {
+    // a half or more counts as one, away from zero under either sign
+    HalfAway,
+    // every fraction goes, toward zero
+    Cut,
+}
+
 // What has been read of a factor, in going through a picture text.
 pub enum Mode {
     // nothing: a symbol, a factor or a mark may come

@@ -12,6 +12,7 @@ use mir.Syntax.{w64}
 use mir.Val.{SFits}
 use Rattle.rules.specs.Edit.{isNegative}
 use Rattle.rules.proofs.Logic.{by-test}
+use Rattle.rules.proofs.Magnitudes.{neg-abs}
 use Rattle.totals.specs.Totals.{greater, lesser, sumFits, sumLimit}
 
 -- Magnitudes.
@@ -24,11 +25,6 @@ plus-abs (pos a) (pos b) = omega arith
 plus-abs (pos a) (negsuc b) = sub-abs a _
 plus-abs (negsuc a) (pos b) = omega (arith, sub-abs b (suc a))
 plus-abs (negsuc a) (negsuc b) = omega arith
-
-neg-abs : (z : ℤ) → natAbs (negℤ z) ≡ natAbs z
-neg-abs (pos zero) = refl
-neg-abs (pos (suc n)) = refl
-neg-abs (negsuc n) = refl
 
 mag-abs : (z : ℤ) → mag z ≤ natAbs z
 mag-abs (pos n) = omega arith

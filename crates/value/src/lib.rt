@@ -5,6 +5,7 @@ use decimal::align::align;
 use decimal::sign::split;
 use field::measure;
 use rules::Picture;
+use rules::Rounding;
 ghost use mathlib.Core.Path.{_≡_};
 ghost use mathlib.Core.Bool.{false};
 ghost use Prim.Native.Nat.{_<_};
@@ -28,9 +29,9 @@ fn unsettled(number: u8) -> Settled
     }
 }
 
-// M at scale q. The range is judged before the magnitude is taken, and SIZE before any product.
-pub fn settle(roles: &[u8], vee: usize, kind: u8, m: i64, q: usize) -> Settled
-    ensures { λ r. ⌜ r ≡ settledOf (formed (now (roles .entry)) vee kind) m q ⌝ }
+// M at scale q, rounded or cut. The range is judged before the magnitude is taken, and SIZE of the aligned magnitude.
+pub fn settle(rounding: Rounding, roles: &[u8], vee: usize, kind: u8, m: i64, q: usize) -> Settled
+    ensures { λ r. ⌜ r ≡ settledOf rounding (formed (now (roles .entry)) vee kind) m q ⌝ }
 {
     let parts = split(m);
     if !parts.fits {
@@ -40,7 +41,13 @@ pub fn settle(roles: &[u8], vee: usize, kind: u8, m: i64, q: usize) -> Settled
         return unsettled(6);
     }
     let measured = measure(roles, vee, kind);
-    let aligned = align(parts.magnitude, q, measured.whole, measured.places);
+    let aligned = align(
+        rounding,
+        parts.magnitude,
+        q,
+        measured.whole,
+        measured.places,
+    );
     if !aligned.fits {
         return unsettled(8);
     }

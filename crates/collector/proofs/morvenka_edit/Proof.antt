@@ -8,7 +8,7 @@ use Rattle.collector.proofs.morvenka_edit.Statement.{statement}
 use Rattle.collector.proofs.morvenka_edit.Tie as tie
 
 pack-requires : tie.Need-pack-requires
-pack-requires c κs = edit-length _ _ _ _ _ (c .before .before .edit .ensures .0)
+pack-requires c κs = edit-length _ _ _ _ _ _ (c .before .before .edit .ensures .0)
 
 returns : tie.Need-returns
 returns c =

@@ -13,29 +13,29 @@ parts : (c : tie.After-split) → c .split .result ≡ partsOf (c .before .befor
 parts c = c .split .ensures ∙ ap partsOf (toZ-ofZ (c .before .before .fits .m))
 
 returns : tie.Need-returns
-returns c = c .unsettled .ensures ∙ out-of-range _ _ _ _ (parts (c .before .before .before)) (c .before .if1 .taken)
+returns c = c .unsettled .ensures ∙ out-of-range _ _ _ _ _ (parts (c .before .before .before)) (c .before .if1 .taken)
 
 returns-2 : tie.Need-returns-2
-returns-2 c = c .unsettled2 .ensures ∙ out-of-scale _ _ _ _ (parts (c .before .before .before .before)) (c .before .before .if1 .left) (omega (arith, c .before .if2 .taken))
+returns-2 c = c .unsettled2 .ensures ∙ out-of-scale _ _ _ _ _ (parts (c .before .before .before .before)) (c .before .before .if1 .left) (omega (arith, c .before .if2 .taken))
 
 returns-3 : tie.Need-returns-3
 returns-3 c =
     let a = c .before .before .before in
     let s = a .before .before in
-    c .unsettled3 .ensures ∙ too-big _ _ _ _ (parts (s .before .before .before)) (s .before .if1 .left) (s .if2 .left) _ (a .before .measure .ensures) _ (a .align .ensures) (c .before .if3 .taken)
+    c .unsettled3 .ensures ∙ too-big _ _ _ _ _ (parts (s .before .before .before)) (s .before .if1 .left) (s .if2 .left) _ (a .before .measure .ensures) _ (a .align .ensures) (c .before .if3 .taken)
 
 returns-4 : tie.Need-returns-4
 returns-4 c =
     let a = c .before .before .before .before .before .before in
     let s = a .before .before in
-    c .unsettled4 .ensures ∙ no-sign _ _ _ _ (parts (s .before .before .before)) (s .before .if1 .left) (s .if2 .left) _ (a .before .measure .ensures) _ (a .align .ensures)
+    c .unsettled4 .ensures ∙ no-sign _ _ _ _ _ (parts (s .before .before .before)) (s .before .if1 .left) (s .if2 .left) _ (a .before .measure .ensures) _ (a .align .ensures)
     (c .before .before .before .before .if3 .left) _ refl (c .before .if4 .taken)
 
 returns-5 : tie.Need-returns-5
 returns-5 c =
     let a = c .before .before .before .before .before in
     let s = a .before .before in
-    settles _ _ _ _ (parts (s .before .before .before)) (s .before .if1 .left) (s .if2 .left) _ (a .before .measure .ensures) _ (a .align .ensures)
+    settles _ _ _ _ _ (parts (s .before .before .before)) (s .before .if1 .left) (s .if2 .left) _ (a .before .measure .ensures) _ (a .align .ensures)
     (c .before .before .before .if3 .left) _ refl (c .if4 .left)
 
 pub settle-spec : {M : Type 1} → statement M

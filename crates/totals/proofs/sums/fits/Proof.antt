@@ -12,7 +12,7 @@ use Rattle.totals.proofs.sums.fits.Statement.{statement}
 use Rattle.totals.proofs.sums.fits.Tie as tie
 
 returns : tie.Need-returns
-returns c = sym (fits-not _ _ (omega (arith, below (c .before .fits .sum) 999999999999999999 (c .if1 .taken))))
+returns c = sym (fits-not _ _ (omega (arith, below (c .before .fits .sum) _ (c .if1 .taken))))
 
 returns-2 : tie.Need-returns-2
 returns-2 c = sym (fits-not _ _ (above (c .before .before .fits .sum) 1000000000000000000 (c .if2 .taken)))
