@@ -8,8 +8,8 @@
  *
  *     check TEXT              compile LAYOUT PLAN
  *     edit TEXT M Q OUT       plan_read PLAN RECORD ROW
- *     read TEXT FIELD ROW     plan_edit PLAN ROW RECORD
- *                             totals_add PLAN BATCH PLACE SHEET
+ *     edit_cut TEXT M Q OUT   plan_edit PLAN ROW RECORD
+ *     read TEXT FIELD ROW     totals_add PLAN BATCH PLACE SHEET
  *
  * An answer line is the call's answer in decimal and the content of the lent memory after the call, `-` if that is empty and for
  * check.
@@ -317,6 +317,11 @@ static uint64_t call_edit(const struct arguments *a)
     return morvenka_edit(RUN(0), a->m, a->q, RUN(1));
 }
 
+static uint64_t call_edit_cut(const struct arguments *a)
+{
+    return morvenka_edit_cut(RUN(0), a->m, a->q, RUN(1));
+}
+
 static uint64_t call_read(const struct arguments *a)
 {
     return morvenka_read(RUN(0), RUN(1), RUN(2));
@@ -352,6 +357,7 @@ static const struct call {
 } calls[] = {
     {"check", "R", call_check},
     {"edit", "RMQL", call_edit},
+    {"edit_cut", "RMQL", call_edit_cut},
     {"read", "RRL", call_read},
 #ifndef MORVENKA_PICTURE_ONLY
     {"compile", "RL", call_compile},

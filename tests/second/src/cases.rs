@@ -1,18 +1,19 @@
 //! Cases and answers as lines of text, the form in which this program and a library exchange them.
 //!
 //! A case line is a call with its arguments, one blank between words, byte runs in lower-case hexadecimal and an empty
-//! run as `-`: `check TEXT`, `edit TEXT M Q OUT`, `read TEXT FIELD ROW`, `compile LAYOUT PLAN`,
+//! run as `-`: `check TEXT`, `edit TEXT M Q OUT`, `edit_cut TEXT M Q OUT`, `read TEXT FIELD ROW`, `compile LAYOUT PLAN`,
 //! `plan_read PLAN RECORD ROW`, `plan_edit PLAN ROW RECORD`, `totals_add PLAN BATCH PLACE SHEET`. The last word (but for
 //! `check`) is the content of the lent memory before the call. M, Q and PLACE are decimal; rows and sheets are raw bytes.
 //! An answer line is `A MEM`: the packed answer in decimal and the content of the lent memory after the call, `-` if
 //! that is empty and for `check`.
 
 use crate::collector;
+use crate::value_to_field::Mode;
 
 #[derive(Clone, PartialEq, Eq, Debug)]
 pub enum Case {
     Check { text: Vec<u8> },
-    Edit { text: Vec<u8>, m: i64, q: u64, out: Vec<u8> },
+    Edit { mode: Mode, text: Vec<u8>, m: i64, q: u64, out: Vec<u8> },
     Read { text: Vec<u8>, field: Vec<u8>, row: Vec<u8> },
     Compile { layout: Vec<u8>, plan: Vec<u8> },
     PlanRead { plan: Vec<u8>, record: Vec<u8>, row: Vec<u8> },
@@ -26,9 +27,10 @@ impl Case {
         let words: Vec<&str> = line.split(' ').collect();
         match words[..] {
             ["check", text] => Some(Case::Check { text: unhex(text)? }),
-            ["edit", text, m, q, out] => {
+            ["edit" | "edit_cut", text, m, q, out] => {
+                let mode = Mode::BOTH.into_iter().find(|&mode| edit_call(mode) == words[0])?;
                 let (m, q) = (m.parse().ok()?, q.parse().ok()?);
-                Some(Case::Edit { text: unhex(text)?, m, q, out: unhex(out)? })
+                Some(Case::Edit { mode, text: unhex(text)?, m, q, out: unhex(out)? })
             }
             ["read", text, field, row] => {
                 Some(Case::Read { text: unhex(text)?, field: unhex(field)?, row: unhex(row)? })
@@ -51,7 +53,9 @@ impl Case {
     pub fn line(&self) -> String {
         match self {
             Case::Check { text } => format!("check {}", hex(text)),
-            Case::Edit { text, m, q, out } => format!("edit {} {m} {q} {}", hex(text), hex(out)),
+            Case::Edit { mode, text, m, q, out } => {
+                format!("{} {} {m} {q} {}", edit_call(*mode), hex(text), hex(out))
+            }
             Case::Read { text, field, row } => {
                 format!("read {} {} {}", hex(text), hex(field), hex(row))
             }
@@ -72,7 +76,12 @@ impl Case {
     pub fn answer(&self) -> Reply {
         match self.clone() {
             Case::Check { text } => Reply { packed: collector::check(&text), memory: Vec::new() },
-            Case::Edit { text, m, q, out } => Reply::of(out, |out| collector::edit(&text, m, q, out)),
+            Case::Edit { mode: Mode::Rounding, text, m, q, out } => {
+                Reply::of(out, |out| collector::edit(&text, m, q, out))
+            }
+            Case::Edit { mode: Mode::Cut, text, m, q, out } => {
+                Reply::of(out, |out| collector::edit_cut(&text, m, q, out))
+            }
             Case::Read { text, field, row } => Reply::of(row, |row| collector::read(&text, &field, row)),
             Case::Compile { layout, plan } => Reply::of(plan, |plan| collector::compile(&layout, plan)),
             Case::PlanRead { plan, record, row } => Reply::of(row, |row| collector::plan_read(&plan, &record, row)),
@@ -95,6 +104,14 @@ impl Case {
             Case::PlanEdit { record, .. } => record,
             Case::TotalsAdd { sheet, .. } => sheet,
         }
+    }
+}
+
+/// The name of the call that edits a value in this mode.
+pub fn edit_call(mode: Mode) -> &'static str {
+    match mode {
+        Mode::Rounding => "edit",
+        Mode::Cut => "edit_cut",
     }
 }
 

@@ -27,6 +27,10 @@ pub fn edit(text: &[u8], m: i64, q: u64, out: &mut [u8]) -> u64 {
     crate::edit(text, m, q, out).packed()
 }
 
+pub fn edit_cut(text: &[u8], m: i64, q: u64, out: &mut [u8]) -> u64 {
+    crate::edit_cut(text, m, q, out).packed()
+}
+
 /// Reads a field; the order is picture, LENGTH, ROOM, CONVERSION.
 pub fn read(text: &[u8], field: &[u8], row: &mut [u8]) -> u64 {
     let answer = crate::read(text, field);

@@ -1,7 +1,7 @@
 //! The judge: holds answer lines of a library against this program's own answers, or against stated ones, and shows the differences
 //! to a reader: each case and answer in words, and below it the line itself.
 
-use crate::cases::{Case, Reply};
+use crate::cases::{edit_call, Case, Reply};
 use crate::collector;
 use crate::layouts_and_plans::{is_plan, rebuilt_layout};
 use crate::totals::Sheet;
@@ -81,8 +81,9 @@ pub fn with_words(line: &str) -> String {
 pub fn worded(case: &Case) -> String {
     match case {
         Case::Check { text } => format!("check {}", printable(text)),
-        Case::Edit { text, m, q, out } => {
-            format!("edit {} value {m}@{q} into {} bytes {}", printable(text), out.len(), printable(out))
+        Case::Edit { mode, text, m, q, out } => {
+            let (call, text, into) = (edit_call(*mode), printable(text), out.len());
+            format!("{call} {text} value {m}@{q} into {into} bytes {}", printable(out))
         }
         Case::Read { text, field, row } => {
             format!("read {} field {} into {} bytes {}", printable(text), printable(field), row.len(), numbers(row))

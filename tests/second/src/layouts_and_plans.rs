@@ -5,7 +5,7 @@ use crate::field_to_value::value_of;
 use crate::numbers_that_come_back::{Answer, Refusal};
 use crate::rules_of_shape::Picture;
 use crate::text_to_symbols::Symbol;
-use crate::value_to_field::field_of;
+use crate::value_to_field::field_at_own_scale;
 
 /// Compiles a layout text into the first bytes of `plan`.
 pub fn compile(layout: &[u8], plan: &mut [u8]) -> Answer {
@@ -175,7 +175,7 @@ pub fn plan_edit(plan: &[u8], row: &[i64], record: &mut [u8]) -> Answer {
     }
     let mut bytes = Vec::new();
     for (k, (picture, &m)) in (1..).zip(pictures.iter().zip(row)) {
-        match field_of(picture, m, picture.f() as u64) {
+        match field_at_own_scale(picture, m) {
             Ok(field) => bytes.extend(field),
             Err(why) => return Answer::refused_at(why, k),
         }

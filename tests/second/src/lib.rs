@@ -2,8 +2,8 @@
 //!
 //! It is written from the rules alone and shares no code and no definitions with the library it judges. Where the rules leave a
 //! choice of method it takes another than the obvious one: texts are taken apart from the right, fields are read by searching
-//! among all looks a field can have, plans are judged by rebuilding a layout from them, alignment is done in 128 bits, and totals are
-//! taken from the list of the records accepted.
+//! among all looks a field can have, plans are judged by rebuilding a layout from them, values are aligned and rounded as decimal texts,
+//! and totals are taken from the list of the records accepted.
 //! The modules follow the sections of the rules; `cases`, `make`, `judge` and `sheet_of_examples` serve the comparison.
 #![forbid(unsafe_code)]
 
@@ -29,4 +29,4 @@ pub use lister::listing;
 pub use numbers_that_come_back::{Answer, Refusal};
 pub use rules_of_shape::check;
 pub use totaller::totalling;
-pub use value_to_field::edit;
+pub use value_to_field::{edit, edit_cut};

@@ -11,13 +11,13 @@ const USAGE: &str = "\
 usage:
   second list                      the lister: input on stdin, listing on stdout
   second total                     the totals program: the lister's input on stdin, refused records and totals on stdout
-  second cases KIND SEED COUNT     write cases; KIND is check, edit, read, compile, plan_read, plan_edit, totals_add,
-                                   picture (the first three), layout (the next three) or all
+  second cases KIND SEED COUNT     write cases; KIND is check, edit, edit_cut, read, compile, plan_read, plan_edit, totals_add,
+                                   picture (the first four), layout (the next three) or all
   second answer                    answer the cases on stdin
   second judge CASES ANSWERS [STATED]
                                    compare the answers in a file with this program's own, or with those in a third file
   second word                      copy stdin; below each line that ends in a case stands the case in words
-  second sheet cases|answers       the examples of the rules and of the manual, as cases or as stated answers
+  second sheet cases|answers       the examples of the rules and of the manuals, as cases or as stated answers
 ";
 
 enum Failure {

@@ -1,6 +1,9 @@
-//! The worked examples of IBM's OS PL/I Language Reference, taken from the vectors file as they stand there; nothing of them is computed.
+//! The worked examples of IBM's OS PL/I Language Reference and of the Multics PL/I Language Specification, taken from the vectors files as
+//! they stand there; nothing of them is computed.
 
-const VECTORS: &str = include_str!("../../vectors/manual-000.tsv");
+use crate::value_to_field::Mode;
+
+const VECTORS: [&str; 2] = [include_str!("../../vectors/manual-000.tsv"), include_str!("../../vectors/manual-001.tsv")];
 
 /// What the document says of an example.
 #[derive(Clone, PartialEq, Eq, Debug)]
@@ -10,8 +13,9 @@ pub enum Example {
         i: usize,
         f: usize,
     },
-    /// M at scale q edits to the field, or is SIZE where there is none.
+    /// In each of the modes M at scale q edits to the field, or is SIZE where there is none.
     Edit {
+        modes: &'static [Mode],
         m: i64,
         q: u64,
         field: Option<Vec<u8>>,
@@ -25,7 +29,7 @@ pub enum Example {
 
 /// The examples with their pictures.
 pub fn examples() -> Vec<(&'static str, Example)> {
-    VECTORS.lines().skip(1).map(example).collect()
+    VECTORS.iter().flat_map(|file| file.lines().skip(1)).map(example).collect()
 }
 
 fn example(line: &'static str) -> (&'static str, Example) {
@@ -40,8 +44,9 @@ fn example(line: &'static str) -> (&'static str, Example) {
             let [n, i, f] = ["n=", "i=", "f="].map(|name| counted(remark, name));
             Example::Accept { n, i, f }
         }
-        Some("edit") => {
-            Example::Edit { m: number(m), q: number(q) as u64, field: (field != "SIZE").then_some(characters) }
+        Some(how @ ("edit" | "cut" | "round")) => {
+            let (modes, field) = (modes(how), (field != "SIZE").then_some(characters));
+            Example::Edit { modes, m: number(m), q: number(q) as u64, field }
         }
         Some("read") => {
             let value = (m != "CONVERSION").then(|| (number(m), number(q) as usize));
@@ -50,6 +55,15 @@ fn example(line: &'static str) -> (&'static str, Example) {
         _ => panic!("an unknown remark: {line}"),
     };
     (picture, example)
+}
+
+/// The modes that the first word of a remark on editing names; `edit` leaves it open, where no digit is dropped.
+fn modes(how: &str) -> &'static [Mode] {
+    match how {
+        "cut" => &[Mode::Cut],
+        "round" => &[Mode::Rounding],
+        _ => &Mode::BOTH,
+    }
 }
 
 /// The number after a name such as `n=` in an accept remark.

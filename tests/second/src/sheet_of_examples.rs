@@ -1,12 +1,13 @@
 //! The sheet of examples, the plan examples, the lister's listing and its totals as data in the words of the rules, and the case and
-//! answer lines made of them and of the manual's examples. The answers come from this data and not from the calls of this program.
+//! answer lines made of them and of the manuals' examples. The answers come from this data and not from the calls of this program.
 
 use crate::cases::{Case, Reply};
 use crate::collector;
 use crate::manual::{self, Example};
 use crate::numbers_that_come_back::pack;
+use crate::value_to_field::Mode;
 
-/// Picture, M, q and the field, `_` for a blank.
+/// Picture, M, q and the field, `_` for a blank; in either mode.
 pub const EDITED: &[(&str, i64, u64, &str)] = &[
     ("ZZ9V.99", 1234, 2, "_12.34"),
     ("ZZ9V.99", 0, 0, "__0.00"),
@@ -21,9 +22,7 @@ pub const EDITED: &[(&str, i64, u64, &str)] = &[
     ("---9", -7, 0, "__-7"),
     ("+++9", -7, 0, "___7"),
     ("S999", -1, 1, "+000"),
-    ("(3)9V9", 12345, 2, "1234"),
     ("99", 99, 0, "99"),
-    ("99", -9, 1, "00"),
     ("**B**", 5, 0, "**_*5"),
     ("99T", 123, 0, "12C"),
     ("99T", -123, 0, "12L"),
@@ -41,11 +40,67 @@ pub const EDITED: &[(&str, i64, u64, &str)] = &[
     ("S(18)9", 999_999_999_999_999_999, 0, "+999999999999999999"),
     ("S(18)9", -999_999_999_999_999_999, 0, "-999999999999999999"),
     ("-V(18)9", -999_999_999_999_999_999, 18, "-999999999999999999"),
-    ("9", -999_999_999_999_999_999, 18, "0"),
     ("9V(17)9", 9, 0, "900000000000000000"),
 ];
 
-/// Picture, M, q and the number of the refusal.
+/// A field, or the number of the refusal.
+pub type Outcome = Result<&'static str, u64>;
+
+/// Picture, M, q, and what comes of a value with more places than the picture: by rounding and by the cut.
+pub const FRACTIONS: &[(&str, i64, u64, Outcome, Outcome)] = &[
+    ("(3)9V9", 12345, 2, Ok("1235"), Ok("1234")),
+    ("99", -9, 1, Err(8), Ok("00")),
+    ("S999", -5, 1, Ok("-001"), Ok("+000")),
+    ("99V9", 9995, 2, Err(8), Ok("999")),
+    ("99V9", 9994, 2, Ok("999"), Ok("999")),
+    ("99V9", 99949, 3, Ok("999"), Ok("999")),
+    ("9", 4, 1, Ok("0"), Ok("0")),
+    ("9", 5, 1, Ok("1"), Ok("0")),
+    ("9", 6, 1, Ok("1"), Ok("0")),
+    ("9", 49, 2, Ok("0"), Ok("0")),
+    ("9", 50, 2, Ok("1"), Ok("0")),
+    ("9", 51, 2, Ok("1"), Ok("0")),
+    ("9", 25, 1, Ok("3"), Ok("2")),
+    ("9V9", 1449, 3, Ok("14"), Ok("14")),
+    ("9V9", 1450, 3, Ok("15"), Ok("14")),
+    ("9V9", 1451, 3, Ok("15"), Ok("14")),
+    ("99", -4, 1, Ok("00"), Ok("00")),
+    ("99", -5, 1, Err(8), Ok("00")),
+    ("-9", -4, 1, Ok("_0"), Ok("_0")),
+    ("-9", -5, 1, Ok("-1"), Ok("_0")),
+    ("-9", -25, 1, Ok("-3"), Ok("-2")),
+    ("99", 994, 1, Ok("99"), Ok("99")),
+    ("99", 995, 1, Err(8), Ok("99")),
+    ("99", 999, 1, Err(8), Ok("99")),
+    ("S99", -995, 1, Err(8), Ok("-99")),
+    ("999", 1995, 1, Ok("200"), Ok("199")),
+    ("999V99", 99999, 3, Ok("10000"), Ok("09999")),
+    ("$$,$$9", 9995, 1, Ok("$1,000"), Ok("__$999")),
+    ("---9", -995, 1, Ok("-100"), Ok("_-99")),
+    ("ZZZV.ZZ", 4, 3, Ok("______"), Ok("______")),
+    ("ZZZV.ZZ", 5, 3, Ok("___.01"), Ok("______")),
+    ("ZZZV.ZZ", 995, 3, Ok("__1.00"), Ok("___.99")),
+    ("**CR", -4, 1, Ok("****"), Ok("****")),
+    ("**CR", -5, 1, Ok("*1CR"), Ok("****")),
+    ("**B**", 995, 1, Ok("*1_00"), Ok("**_99")),
+    ("99T", -1235, 1, Ok("12M"), Ok("12L")),
+    ("T", -4, 1, Ok("{"), Ok("{")),
+    ("T", -5, 1, Ok("J"), Ok("{")),
+    ("9", 499_999_999_999_999_999, 18, Ok("0"), Ok("0")),
+    ("9", 500_000_000_000_000_000, 18, Ok("1"), Ok("0")),
+    ("-9", -499_999_999_999_999_999, 18, Ok("_0"), Ok("_0")),
+    ("-9", -500_000_000_000_000_000, 18, Ok("-1"), Ok("_0")),
+    ("9", -999_999_999_999_999_999, 18, Err(8), Ok("0")),
+    ("9V(17)9", 999_999_999_999_999_994, 18, Ok("099999999999999999"), Ok("099999999999999999")),
+    ("9V(17)9", 999_999_999_999_999_995, 18, Ok("100000000000000000"), Ok("099999999999999999")),
+    ("V(17)9", 999_999_999_999_999_995, 18, Err(8), Ok("99999999999999999")),
+    ("S(17)9", -999_999_999_999_999_994, 1, Ok("-99999999999999999"), Ok("-99999999999999999")),
+    ("S(17)9", -999_999_999_999_999_995, 1, Err(8), Ok("-99999999999999999")),
+    ("S(18)9", -999_999_999_999_999_995, 1, Ok("-100000000000000000"), Ok("-099999999999999999")),
+    ("9", 0, 18, Ok("0"), Ok("0")),
+];
+
+/// Picture, M, q and the number of the refusal, in either mode.
 pub const EDITING_REFUSED: &[(&str, i64, u64, u64)] = &[
     ("99", 100, 0, 8),
     ("99", -1, 0, 8),
@@ -54,6 +109,8 @@ pub const EDITING_REFUSED: &[(&str, i64, u64, u64)] = &[
     ("9", 0, 19, 6),
     ("9V(17)9", 10, 0, 8),
     ("9V(17)9", 999_999_999_999_999_999, 0, 8),
+    ("99", -15, 1, 8),
+    ("99", 1000, 1, 8),
 ];
 
 /// Picture, field and value.
@@ -172,15 +229,15 @@ const GUARD: u8 = 0xa5;
 /// The lent bytes beyond those needed.
 const SPARE: usize = 3;
 
-/// A case and the answer that the rules or the manual give to it.
+/// A case and the answer that the rules or a manual gives to it.
 pub type Stated = (Case, Reply);
 
-/// The sheet, the plan examples, the records of the listing and the manual's examples.
+/// The sheet, the plan examples, the records of the listing and the manuals' examples.
 pub fn stated() -> Vec<Stated> {
     let mut all = sheet();
     all.extend(plan_example());
     all.extend(punched_plan());
-    all.extend(manual::examples().into_iter().map(|(picture, example)| of_manual(picture, example)));
+    all.extend(manual::examples().into_iter().flat_map(|(picture, example)| of_manual(picture, example)));
     all
 }
 
@@ -232,8 +289,15 @@ fn sheet_bytes((count, fields): Totals) -> Vec<u8> {
 
 fn sheet() -> Vec<Stated> {
     let mut all = Vec::new();
-    all.extend(EDITED.iter().map(|&(text, m, q, field)| edited(text, m, q, &blanks(field))));
-    all.extend(EDITING_REFUSED.iter().map(|&(text, m, q, number)| edit_refused(text, m, q, number)));
+    for mode in Mode::BOTH {
+        all.extend(EDITED.iter().map(|&(text, m, q, field)| edited(mode, text, m, q, Ok(&blanks(field)))));
+        all.extend(EDITING_REFUSED.iter().map(|&(text, m, q, number)| edited(mode, text, m, q, Err(number))));
+    }
+    for &(text, m, q, rounded, cut) in FRACTIONS {
+        for (mode, outcome) in [(Mode::Rounding, rounded), (Mode::Cut, cut)] {
+            all.push(edited(mode, text, m, q, outcome.map(blanks).as_deref().map_err(|&number| number)));
+        }
+    }
     all.extend(READ.iter().map(|&(text, field, value)| read(text, &blanks(field), value)));
     all.extend(READING_REFUSED.iter().map(|&(text, field, number)| read_refused(text, &blanks(field), number)));
     all.extend(CHECKED.iter().map(|&(text, number, length)| checked(text, number, length)));
@@ -264,13 +328,14 @@ fn punched_plan() -> Vec<Stated> {
     vec![stated_case(compiling, 8, PUNCHED_PLAN), refused_case(refused, 12, 0)]
 }
 
-fn of_manual(picture: &str, example: Example) -> Stated {
+fn of_manual(picture: &str, example: Example) -> Vec<Stated> {
     match example {
-        Example::Accept { n, .. } => checked(picture, 0, n as u64),
-        Example::Edit { m, q, field: Some(field) } => edited(picture, m, q, &field),
-        Example::Edit { m, q, field: None } => edit_refused(picture, m, q, 8),
-        Example::Read { field, value: Some((m, _)) } => read(picture, &field, m),
-        Example::Read { field, value: None } => read_refused(picture, &field, 10),
+        Example::Accept { n, .. } => vec![checked(picture, 0, n as u64)],
+        Example::Edit { modes, m, q, field } => {
+            modes.iter().map(|&mode| edited(mode, picture, m, q, field.as_deref().ok_or(8))).collect()
+        }
+        Example::Read { field, value: Some((m, _)) } => vec![read(picture, &field, m)],
+        Example::Read { field, value: None } => vec![read_refused(picture, &field, 10)],
     }
 }
 
@@ -278,13 +343,14 @@ fn checked(text: &str, number: u64, length: u64) -> Stated {
     (Case::Check { text: text.into() }, Reply { packed: pack(number, 0, length), memory: Vec::new() })
 }
 
-fn edited(text: &str, m: i64, q: u64, field: &[u8]) -> Stated {
-    let out = vec![GUARD; field.len() + SPARE];
-    stated_case(Case::Edit { text: text.into(), m, q, out }, field.len(), field)
-}
-
-fn edit_refused(text: &str, m: i64, q: u64, number: u64) -> Stated {
-    refused_case(Case::Edit { text: text.into(), m, q, out: vec![GUARD; 64] }, number, 0)
+/// A value that has a field, or the number of its refusal.
+fn edited(mode: Mode, text: &str, m: i64, q: u64, field: Result<&[u8], u64>) -> Stated {
+    let lent = field.map_or(64, |field| field.len() + SPARE);
+    let case = Case::Edit { mode, text: text.into(), m, q, out: vec![GUARD; lent] };
+    match field {
+        Ok(field) => stated_case(case, field.len(), field),
+        Err(number) => refused_case(case, number, 0),
+    }
 }
 
 fn read(text: &str, field: &[u8], value: i64) -> Stated {

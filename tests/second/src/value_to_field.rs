@@ -1,41 +1,97 @@
-//! From value to field: alignment, done in 128 bits so that nothing has to be ordered against overflow, and the printing of the
-//! aligned number through the picture.
+//! From value to field: alignment, done on the decimal text of M, in which only the point moves and digits are dropped, so that no
+//! number has to be multiplied or divided; and the printing of the aligned digits through the picture.
 
 use crate::numbers_that_come_back::{Answer, Refusal};
 use crate::rules_of_shape::Picture;
 use crate::text_to_symbols::Symbol;
 use std::ops::Range;
 
-/// A value brought to the scale of a picture: the sign and the magnitude.
+/// What becomes of the digits that stand behind the last place of a picture.
 #[derive(Clone, Copy, PartialEq, Eq, Debug)]
+pub enum Mode {
+    /// The first of them decides: from 5 on, the magnitude becomes one more in the last place.
+    Rounding,
+    /// They are dropped.
+    Cut,
+}
+
+impl Mode {
+    pub const BOTH: [Mode; 2] = [Mode::Rounding, Mode::Cut];
+}
+
+/// A value brought to the scale of a picture: the sign, and one decimal digit for each digit of the picture.
+#[derive(Clone, PartialEq, Eq, Debug)]
 pub struct Aligned {
     pub negative: bool,
-    pub t: u128,
+    pub digits: Vec<u8>,
+}
+
+impl Aligned {
+    fn is_zero(&self) -> bool {
+        self.digits.iter().all(|&digit| digit == b'0')
+    }
 }
 
 /// Aligns M at scale q, or VALUE or SIZE in this order.
-pub fn align(picture: &Picture, m: i64, q: u64) -> Result<Aligned, Refusal> {
-    let magnitude = i128::from(m).unsigned_abs();
-    if magnitude >= power(Picture::MOST_DIGITS) || q > Picture::MOST_DIGITS as u64 {
+pub fn align(picture: &Picture, m: i64, q: u64, mode: Mode) -> Result<Aligned, Refusal> {
+    let magnitude = m.unsigned_abs().to_string();
+    if magnitude.len() > Picture::MOST_DIGITS || q > Picture::MOST_DIGITS as u64 {
         return Err(Refusal::Value);
     }
-    let q = q as usize;
-    let t = magnitude * power(picture.f()) / power(q);
-    let whole = magnitude / power(q);
-    if whole >= power(picture.i()) || (t > 0 && m < 0 && !picture.signed()) {
+    let moved = with_places(&magnitude, q as usize, picture.f(), mode);
+    let significant = moved.trim_start_matches('0');
+    let negative = m < 0 && !significant.is_empty();
+    let width = picture.digits.len();
+    if significant.len() > width || (negative && !picture.signed()) {
         return Err(Refusal::Size);
     }
-    Ok(Aligned { negative: m < 0 && t > 0, t })
+    Ok(Aligned { negative, digits: format!("{significant:0>width$}").into_bytes() })
+}
+
+/// The digits of a number whose last q stand behind the point, when f of them are to stand there.
+fn with_places(digits: &str, q: usize, f: usize, mode: Mode) -> String {
+    let written = format!("{digits:0>q$}");
+    let (whole, part) = written.split_at(written.len() - q);
+    let (kept, dropped) = part.split_at(part.len().min(f));
+    let kept = format!("{whole}{kept:0<f$}");
+    match (mode, dropped.chars().next()) {
+        (Mode::Rounding, Some('5'..='9')) => one_more(&kept),
+        _ => kept,
+    }
+}
+
+/// The digits of the next number: the nines at the end become zeros, and the digit before them the next one.
+fn one_more(digits: &str) -> String {
+    let before = digits.trim_end_matches('9');
+    let zeros = "0".repeat(digits.len() - before.len());
+    match before.char_indices().last() {
+        Some((last, digit)) => format!("{}{}{zeros}", &before[..last], char::from(digit as u8 + 1)),
+        None => format!("1{zeros}"),
+    }
 }
 
 /// The field of M at scale q, or VALUE or SIZE.
-pub fn field_of(picture: &Picture, m: i64, q: u64) -> Result<Vec<u8>, Refusal> {
-    align(picture, m, q).map(|aligned| print(picture, aligned))
+pub fn field_of(picture: &Picture, m: i64, q: u64, mode: Mode) -> Result<Vec<u8>, Refusal> {
+    align(picture, m, q, mode).map(|aligned| print(picture, &aligned))
 }
 
-/// Edits M at scale q through a picture text into the first n bytes of `out`.
+/// The field of M at the scale of the picture, where no digit is dropped, or VALUE or SIZE.
+pub fn field_at_own_scale(picture: &Picture, m: i64) -> Result<Vec<u8>, Refusal> {
+    field_of(picture, m, picture.f() as u64, Mode::Rounding)
+}
+
+/// Edits M at scale q through a picture text into the first n bytes of `out`, rounding.
 pub fn edit(text: &[u8], m: i64, q: u64, out: &mut [u8]) -> Answer {
-    let field = match Picture::of(text).and_then(|picture| field_of(&picture, m, q)) {
+    edit_in(Mode::Rounding, text, m, q, out)
+}
+
+/// Edits as `edit`, by the cut.
+pub fn edit_cut(text: &[u8], m: i64, q: u64, out: &mut [u8]) -> Answer {
+    edit_in(Mode::Cut, text, m, q, out)
+}
+
+fn edit_in(mode: Mode, text: &[u8], m: i64, q: u64, out: &mut [u8]) -> Answer {
+    let field = match Picture::of(text).and_then(|picture| field_of(&picture, m, q, mode)) {
         Ok(field) => field,
         Err(why) => return Answer::refused(why),
     };
@@ -46,17 +102,13 @@ pub fn edit(text: &[u8], m: i64, q: u64, out: &mut [u8]) -> Answer {
     Answer::success(field.len())
 }
 
-fn power(exponent: usize) -> u128 {
-    10u128.pow(exponent as u32)
-}
-
-fn print(picture: &Picture, value: Aligned) -> Vec<u8> {
-    if picture.every_digit_suppressible() && value.t == 0 {
+fn print(picture: &Picture, value: &Aligned) -> Vec<u8> {
+    if picture.every_digit_suppressible() && value.is_zero() {
         let cover = |&symbol: &Symbol| vec![hidden(picture, symbol); symbol.width()];
         return picture.symbols.iter().flat_map(cover).collect();
     }
-    let shown = format!("{:0width$}", value.t, width = picture.digits.len()).into_bytes();
-    let stretch = suppressed_stretch(picture, &shown);
+    let shown = &value.digits;
+    let stretch = suppressed_stretch(picture, shown);
     let mut field = Vec::new();
     for (at, &symbol) in picture.symbols.iter().enumerate() {
         let digit = picture.digits.iter().position(|&d| d == at).map(|k| shown[k]);

@@ -9,7 +9,7 @@ use second::make::random::Random;
 use second::make::values::fitting;
 use second::rules_of_shape::Picture;
 use second::text_to_symbols::Symbol;
-use second::value_to_field::field_of;
+use second::value_to_field::field_at_own_scale;
 
 /// The picture without its Bs; that of the debit mark stays.
 fn without_bs(picture: &Picture) -> Picture {
@@ -29,10 +29,9 @@ fn parted(picture: &Picture, field: &[u8]) -> (Vec<u8>, Vec<u8>) {
 }
 
 fn prints_by_the_law(picture: &Picture, m: i64) {
-    let (short, f) = (without_bs(picture), picture.f() as u64);
-    let (bs, others) = parted(picture, &field_of(picture, m, f).expect("the value fits"));
+    let (bs, others) = parted(picture, &field_at_own_scale(picture, m).expect("the value fits"));
     assert!(bs.iter().all(|&byte| byte == b' '), "{picture:?} {m}");
-    assert_eq!(field_of(&short, m, f), Ok(others), "{picture:?} {m}");
+    assert_eq!(field_at_own_scale(&without_bs(picture), m), Ok(others), "{picture:?} {m}");
 }
 
 fn reads_by_the_law(picture: &Picture, field: &[u8]) {

@@ -6,6 +6,7 @@ use second::layouts_and_plans::{pictures_of_plan, record_length};
 use second::make::{case, random::Random, KINDS};
 use second::rules_of_shape::Picture;
 use second::text_to_symbols::{symbols_of, Symbol};
+use second::value_to_field::Mode;
 use std::collections::HashMap;
 
 fn answered(kind: &str, seed: u64, count: usize) -> Vec<(Case, Reply)> {
@@ -47,9 +48,10 @@ fn refusals_name_a_field_only_in_layouts_and_plans() {
 
 #[test]
 fn most_cases_reach_the_last_test() {
-    let last: [(&str, &[u64]); 7] = [
+    let last: [(&str, &[u64]); 8] = [
         ("check", &[0, 4, 5]),
         ("edit", &[0, 7]),
+        ("edit_cut", &[0, 7]),
         ("read", &[0, 10]),
         ("compile", &[0, 7]),
         ("plan_read", &[0, 10]),
@@ -65,9 +67,10 @@ fn most_cases_reach_the_last_test() {
 
 #[test]
 fn every_number_comes_back_in_every_call_that_has_it() {
-    let numbers: [(&str, &[u64]); 7] = [
+    let numbers: [(&str, &[u64]); 8] = [
         ("check", &[0, 1, 2, 3, 4, 5]),
         ("edit", &[0, 1, 2, 3, 4, 5, 6, 7, 8]),
+        ("edit_cut", &[0, 1, 2, 3, 4, 5, 6, 7, 8]),
         ("read", &[0, 1, 2, 3, 4, 5, 7, 9, 10]),
         ("compile", &[0, 1, 2, 3, 4, 5, 7, 11]),
         ("plan_read", &[0, 7, 9, 10, 12]),
@@ -188,6 +191,91 @@ fn many_values_stand_at_the_limits() {
     assert!(often(&by_digits) && often(&by_scale), "{by_digits:?} {by_scale:?}");
     assert!(often(&largest) && often(&beyond) && scale_beyond > 40, "{largest:?} {beyond:?} {scale_beyond}");
     assert!(by_digits[18] > 400 && by_scale[18] > 400, "{by_digits:?} {by_scale:?}");
+}
+
+/// A value that has a field by the cut, of more places than its picture: what the cut keeps of it, what goes, and both replies.
+struct Fraction {
+    picture: Picture,
+    negative: bool,
+    kept: i64,
+    /// How many places go, and what stands in them.
+    places: u32,
+    gone: i64,
+    rounded: Reply,
+    cut: Reply,
+}
+
+/// None for another case.
+fn fraction(case: &Case) -> Option<Fraction> {
+    let Case::Edit { text, m, q, out, .. } = case else { panic!("another call: {}", case.line()) };
+    let picture = Picture::of(text).ok()?;
+    let reply = |mode| Case::Edit { mode, text: text.clone(), m: *m, q: *q, out: out.clone() }.answer();
+    let (rounded, cut) = (reply(Mode::Rounding), reply(Mode::Cut));
+    let places = q.checked_sub(picture.f() as u64).filter(|&places| places > 0 && cut.number() == 0)? as u32;
+    let (kept, gone) = (m.abs() / 10i64.pow(places), m.abs() % 10i64.pow(places));
+    Some(Fraction { picture, negative: *m < 0, kept, places, gone, rounded, cut })
+}
+
+fn said_of_halves(t: &Fraction) -> Said {
+    let half = 10i64.pow(t.places) / 2;
+    let refused = t.rounded.number() == 8;
+    vec![
+        ("a half goes and is one more", t.gone == half && !refused),
+        ("next below a half goes", t.gone == half - 1),
+        ("next below a half goes, of several places", t.gone == half - 1 && t.places > 3),
+        ("next above a half goes, of several places", t.gone == half + 1 && t.places > 3 && !refused),
+        ("the most goes", t.gone == 2 * half - 1 && !refused),
+        ("nothing goes", t.gone == 0),
+        ("a half goes of a value of 18 digits", t.gone == half && digits(t.kept * 2 * half) == 18 && !refused),
+        ("all 18 places go", t.places == 18 && t.gone >= half),
+    ]
+}
+
+fn said_of_carries(t: &Fraction) -> Said {
+    let (refused, goes_up) = (t.rounded.number() == 8, t.gone >= 10i64.pow(t.places) / 2);
+    let (longer, held) = (digits(t.kept + 1) > digits(t.kept), digits(t.kept) == t.picture.digits.len());
+    let nines = t.kept % 100 == 99;
+    vec![
+        ("a carry through nines", goes_up && nines && !longer && !refused),
+        ("a carry through nines to one more digit", goes_up && nines && longer && !refused),
+        ("a carry to more digits than there are", goes_up && longer && held && refused),
+        ("nines stay nines", !goes_up && nines && longer && held && !refused),
+    ]
+}
+
+fn said_of_signs(t: &Fraction) -> Said {
+    let (refused, goes_up) = (t.rounded.number() == 8, t.gone >= 10i64.pow(t.places) / 2);
+    let (signed, from_zero) = (t.picture.signed(), t.kept == 0 && t.gone > 0);
+    let hides = t.picture.every_digit_suppressible();
+    vec![
+        ("a negative becomes zero without a sign", t.negative && from_zero && !goes_up && !signed && !refused),
+        ("a negative becomes zero under a sign", t.negative && from_zero && !goes_up && signed && !refused),
+        ("a negative becomes -1 without a sign", t.negative && from_zero && goes_up && !signed && refused),
+        ("a negative becomes -1 under a sign", t.negative && from_zero && goes_up && signed && !refused),
+        ("a negative becomes less than -1", t.negative && !from_zero && goes_up && !refused),
+        ("all stays hidden", hides && from_zero && !goes_up && !refused),
+        ("all is hidden by the cut alone", hides && from_zero && goes_up && !refused),
+    ]
+}
+
+#[test]
+fn many_values_round() {
+    let (mut counts, mut by_places): (HashMap<&str, usize>, _) = (HashMap::new(), [0; 19]);
+    let (mut differ, mut too_large) = (0, 0);
+    for (case, _) in answered("edit", 33, 20_000) {
+        let Some(tried) = fraction(&case) else {
+            continue;
+        };
+        for said in [said_of_halves, said_of_carries, said_of_signs] {
+            said(&tried).into_iter().for_each(|(what, is_so)| *counts.entry(what).or_insert(0) += usize::from(is_so));
+        }
+        by_places[tried.places as usize] += usize::from(tried.rounded.number() == 0 && tried.rounded != tried.cut);
+        differ += usize::from(tried.rounded != tried.cut);
+        too_large += usize::from(tried.rounded.number() == 8);
+    }
+    counts.iter().for_each(|(what, &count)| assert!(count > 40, "{what}: {count}"));
+    assert!(by_places[1..].iter().all(|&count| count > 40), "{by_places:?}");
+    assert!((3_000..6_000).contains(&differ) && too_large > 600, "{differ} {too_large}");
 }
 
 /// How many digits the symbols of a text have.
@@ -396,11 +484,14 @@ fn lines_are_read_back() {
         assert_eq!(Case::parse(&case.line()), Some(case));
         assert_eq!(Reply::parse(&reply.line()), Some(reply));
     }
-    assert_eq!(Case::Edit { text: b"Z9".to_vec(), m: -5, q: 2, out: Vec::new() }.line(), "edit 5a39 -5 2 -");
+    let editing = |mode| Case::Edit { mode, text: b"Z9".to_vec(), m: -5, q: 2, out: Vec::new() };
+    assert_eq!(editing(Mode::Rounding).line(), "edit 5a39 -5 2 -");
+    assert_eq!(editing(Mode::Cut).line(), "edit_cut 5a39 -5 2 -");
     let adding = Case::TotalsAdd { plan: vec![1], batch: Vec::new(), place: u64::MAX, sheet: vec![255] };
     assert_eq!(adding.line(), "totals_add 01 - 18446744073709551615 ff");
     let calls = ["", "check", "check ", "check 5", "check 5A", "check 39 ", "edit 39 1 -1 -", "edit 39 1 1", "list 39"];
-    for line in calls.into_iter().chain(["totals_add 01 - -1 ff", "totals_add 01 - ff"]) {
+    let others = ["edit_cut 39 1 1", "edit_round 39 1 1 -", "totals_add 01 - -1 ff", "totals_add 01 - ff"];
+    for line in calls.into_iter().chain(others) {
         assert_eq!(Case::parse(line), None, "{line}");
     }
     assert_eq!((hex(&[]), hex(&[0, 255])), ("-".to_string(), "00ff".to_string()));

@@ -1,10 +1,11 @@
 //! The calls of the C collector: packed answers, rows as byte runs of any length, spare bytes left alone.
 
-use second::collector::{bytes, check, compile, edit, numbers, plan_edit, plan_read, read};
+use second::collector::{bytes, check, compile, edit, edit_cut, numbers, plan_edit, plan_read, read};
 use second::sheet_of_examples::{LAYOUT, PLAN};
 
 const VALUE: u64 = 6;
 const ROOM: u64 = 7;
+const SIZE: u64 = 8;
 const LENGTH: u64 = 9;
 
 #[test]
@@ -52,6 +53,18 @@ fn rows_for_editing() {
 }
 
 #[test]
+fn editing_a_single_value() {
+    let mut out = *b"####";
+    assert_eq!((edit(b"99V9", 9_995, 2, &mut out), &out), (SIZE, b"####"));
+    assert_eq!((edit_cut(b"99V9", 9_995, 2, &mut out[..2]), &out), (ROOM, b"####"));
+    assert_eq!((edit_cut(b"99V9", 9_995, 2, &mut out), &out), (65_536 * 3, b"999#"));
+    assert_eq!((edit(b"99V9", 9_985, 2, &mut out), &out), (65_536 * 3, b"999#"));
+    assert_eq!((edit_cut(b"99V9", 9_985, 2, &mut out), &out), (65_536 * 3, b"998#"));
+    assert_eq!((edit(b"99", -5, 1, &mut out), edit_cut(b"9Z", -5, 1, &mut out)), (SIZE, 4));
+    assert_eq!((edit(b"-9", -5, 1, &mut out), &out), (65_536 * 2, b"-18#"));
+}
+
+#[test]
 fn reading_a_single_field() {
     let mut row = [0xee; 9];
     assert_eq!(read(b"9Z", b"1", &mut []), 4);
@@ -94,7 +107,7 @@ fn the_largest_values_of_one_picture() {
     assert_eq!(read(b"S(18)9", &out[..19], &mut row), 65_536);
     assert_eq!(row, *[&LARGEST_ROW[8..], &[0xee]].concat());
     for (m, q) in [(LARGEST[0] + 1, 0), (LARGEST[1] - 1, 18), (LARGEST[0], 19), (0, 19)] {
-        assert_eq!(edit(b"S(18)9", m, q, &mut out), VALUE);
+        assert_eq!((edit(b"S(18)9", m, q, &mut out), edit_cut(b"S(18)9", m, q, &mut out)), (VALUE, VALUE));
     }
     assert_eq!(&out, b"-999999999999999999#");
 }

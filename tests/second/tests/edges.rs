@@ -1,7 +1,7 @@
 //! Points of the rules that are easily missed, one test a group, each with the result that the words of the rules give.
 
 use second::sheet_of_examples::blanks;
-use second::{check, compile, edit, is_plan, plan_edit, plan_read, read, Answer};
+use second::{check, compile, edit, edit_cut, is_plan, plan_edit, plan_read, read, Answer};
 
 /// The largest M.
 const LARGEST: i64 = 999_999_999_999_999_999;
@@ -16,15 +16,42 @@ fn accepted(text: &str, n: u64) {
     assert_eq!(check(text.as_bytes()), Answer::success(n as usize), "{text}");
 }
 
-fn edits(text: &str, m: i64, q: u64, field: &str) {
+type Edit = fn(&[u8], i64, u64, &mut [u8]) -> Answer;
+
+fn edits_by(edit: Edit, text: &str, m: i64, q: u64, field: &str) {
     let mut out = vec![b'#'; field.len()];
     assert_eq!(edit(text.as_bytes(), m, q, &mut out), Answer::success(field.len()), "{text} {m}@{q}");
     assert_eq!(String::from_utf8(out).unwrap().replace(' ', "_"), field, "{text} {m}@{q}");
 }
 
-fn edit_is(number: u64, text: &str, m: i64, q: u64) {
+fn edit_by_is(edit: Edit, number: u64, text: &str, m: i64, q: u64) {
     let expected = Answer { number, field: 0, length: 0, value: 0 };
     assert_eq!(edit(text.as_bytes(), m, q, &mut [0; 64]), expected, "{text} {m}@{q}");
+}
+
+/// In either mode.
+fn edits(text: &str, m: i64, q: u64, field: &str) {
+    [edit, edit_cut].iter().for_each(|&edit| edits_by(edit, text, m, q, field));
+}
+
+/// In either mode.
+fn edit_is(number: u64, text: &str, m: i64, q: u64) {
+    [edit, edit_cut].iter().for_each(|&edit| edit_by_is(edit, number, text, m, q));
+}
+
+/// By the cut, where rounding gives something else.
+fn cuts(text: &str, m: i64, q: u64, field: &str) {
+    edits_by(edit_cut, text, m, q, field);
+}
+
+/// By rounding, where the cut gives something else.
+fn rounds(text: &str, m: i64, q: u64, field: &str) {
+    edits_by(edit, text, m, q, field);
+}
+
+/// By rounding, where the cut takes the value.
+fn round_is(number: u64, text: &str, m: i64, q: u64) {
+    edit_by_is(edit, number, text, m, q);
 }
 
 fn reads(text: &str, field: &str, value: i64) {
@@ -205,7 +232,8 @@ fn zero_has_the_plus() {
     for (text, field) in
         [("S9", "+0"), ("+9", "+0"), ("-9", "_0"), ("9CR", "0__"), ("9DB", "0__"), ("SS9", "_+0"), ("--9", "__0")]
     {
-        edits(text, -9, 1, field);
+        edits(text, -4, 1, field);
+        cuts(text, -9, 1, field);
         edits(text, 0, 0, field);
         reads(text, field, 0);
     }
@@ -222,9 +250,11 @@ fn zero_has_the_plus() {
         read_is(10, text, field);
     }
     read_is(10, "+99", "_00");
-    edits("99", -9, 1, "00");
+    edits("99", -4, 1, "00");
+    cuts("99", -9, 1, "00");
     edit_is(8, "99", -1, 0);
-    edits("ZZCR", -9, 1, "____");
+    edits("ZZCR", -4, 1, "____");
+    cuts("ZZCR", -9, 1, "____");
 }
 
 const PLAIN: [&str; 10] = ["0", "1", "2", "3", "4", "5", "6", "7", "8", "9"];
@@ -286,7 +316,8 @@ fn plain_digits_are_never_punched() {
 fn zero_is_punched_as_plus() {
     for (text, field) in [("T", "{"), ("I", "{"), ("R", "0"), ("9T", "0{"), ("9I", "0{"), ("9R", "00"), ("T9", "{0")] {
         edits(text, 0, 0, field);
-        edits(text, -9, 1, field);
+        edits(text, -4, 1, field);
+        cuts(text, -9, 1, field);
         reads(text, field, 0);
     }
     for (text, field) in
@@ -312,12 +343,17 @@ fn punched_digits_take_negatives() {
     edit_is(8, "9T", 100, 0);
     edit_is(8, "9T", -100, 0);
     edit_is(8, "VT", 1, 0);
-    edits("99T", -1_239, 1, "12L");
-    edits("99T", 1_239, 1, "12C");
+    cuts("99T", -1_239, 1, "12L");
+    cuts("99T", 1_239, 1, "12C");
+    rounds("99T", -1_239, 1, "12M");
+    rounds("99T", 1_239, 1, "12D");
     edits("(17)9T", -LARGEST, 0, "99999999999999999R");
     edits("I(17)9", LARGEST, 0, "I99999999999999999");
     edit_is(6, "T", -LARGEST - 1, 18);
-    edits("T", -LARGEST, 18, "{");
+    cuts("T", -LARGEST, 18, "{");
+    rounds("T", -LARGEST, 18, "J");
+    rounds("I", -LARGEST, 18, "1");
+    rounds("R", -LARGEST, 18, "J");
 }
 
 #[test]
@@ -381,14 +417,17 @@ fn whole_part_too_large() {
     edit_is(8, "V99", 1, 0);
     edit_is(8, "V99", 100, 2);
     edits("V99", 99, 2, "99");
-    edits("V99", 9_999, 4, "99");
+    cuts("V99", 9_999, 4, "99");
+    round_is(8, "V99", 9_999, 4);
+    edits("V99", 9_949, 4, "99");
     edit_is(8, "9V(17)9", 10, 0);
     edits("9V(17)9", 9, 0, "900000000000000000");
     edits("V(18)9", LARGEST, 18, "999999999999999999");
     edits("(18)9", LARGEST, 0, "999999999999999999");
     edit_is(8, "(17)9", LARGEST, 0);
     edit_is(8, "(17)9", 100_000_000_000_000_000, 0);
-    edits("(17)9", LARGEST, 1, "99999999999999999");
+    cuts("(17)9", LARGEST, 1, "99999999999999999");
+    round_is(8, "(17)9", LARGEST, 1);
 }
 
 #[test]
@@ -400,7 +439,8 @@ fn aligned_numbers_beyond_64_bits() {
     edit_is(8, "V(18)9", 1, 0);
     edit_is(8, "9V(17)9", LARGEST, 16);
     edits("9V(17)9", LARGEST, 17, "999999999999999999");
-    edits("9V(17)9", LARGEST, 18, "099999999999999999");
+    cuts("9V(17)9", LARGEST, 18, "099999999999999999");
+    rounds("9V(17)9", LARGEST, 18, "100000000000000000");
     edit_is(8, "(9)9V(9)9", 1_000_000_000, 0);
     edits("(9)9V(9)9", 999_999_999, 0, "999999999000000000");
     // The product of each with the power of ten is a multiple of 2 to the 64.
@@ -560,8 +600,10 @@ fn ranges_of_values_come_first() {
     }
     edit_is(8, "9", LARGEST, 0);
     edit_is(8, "9", -LARGEST, 17);
-    edits("9", -LARGEST, 18, "0");
-    edits("9", LARGEST, 17, "9");
+    cuts("9", -LARGEST, 18, "0");
+    round_is(8, "9", -LARGEST, 18);
+    cuts("9", LARGEST, 17, "9");
+    round_is(8, "9", LARGEST, 17);
 }
 
 #[test]
@@ -577,8 +619,10 @@ fn values_of_every_size_and_scale() {
         let (below_one, nines) = (10i64.pow(q as u32) - 1, "9".repeat(q));
         let (plus, minus) = (format!("+{nines}"), format!("-{nines}"));
         shows(&format!("SV({q})9"), &[(below_one, q as u64, &plus), (-below_one, q as u64, &minus)]);
-        edits("S9V9", -below_one, q as u64, "-09");
-        edits("9", -below_one, q as u64, "0");
+        cuts("S9V9", -below_one, q as u64, "-09");
+        rounds("S9V9", -below_one, q as u64, if q == 1 { "-09" } else { "-10" });
+        cuts("9", -below_one, q as u64, "0");
+        round_is(8, "9", -below_one, q as u64);
         edits("9", 0, q as u64, "0");
     }
 }
@@ -614,14 +658,16 @@ fn the_largest_values_under_every_kind() {
 
 #[test]
 fn order_of_refusals_on_one_picture() {
-    assert_eq!(edit(b"", i64::MIN, 99, &mut []).number, 1);
-    assert_eq!(edit(b"9Z", i64::MIN, 99, &mut []).number, 4);
-    assert_eq!(edit(b"9", i64::MIN, 0, &mut []).number, 6);
-    assert_eq!(edit(b"9", 10, 0, &mut []).number, 8);
-    assert_eq!(edit(b"9", 9, 0, &mut []).number, 7);
-    assert_eq!(edit(b"(19)9", i64::MIN, 99, &mut []).number, 5);
-    assert_eq!(edit(b"(18)9", i64::MIN, 99, &mut []).number, 6);
-    assert_eq!(edit(b"(18)9", LARGEST, 0, &mut [0; 17]).number, 7);
+    for edit in [edit, edit_cut] {
+        assert_eq!(edit(b"", i64::MIN, 99, &mut []).number, 1);
+        assert_eq!(edit(b"9Z", i64::MIN, 99, &mut []).number, 4);
+        assert_eq!(edit(b"9", i64::MIN, 0, &mut []).number, 6);
+        assert_eq!(edit(b"9", 10, 0, &mut []).number, 8);
+        assert_eq!(edit(b"9", 9, 0, &mut []).number, 7);
+        assert_eq!(edit(b"(19)9", i64::MIN, 99, &mut []).number, 5);
+        assert_eq!(edit(b"(18)9", i64::MIN, 99, &mut []).number, 6);
+        assert_eq!(edit(b"(18)9", LARGEST, 0, &mut [0; 17]).number, 7);
+    }
     assert_eq!(read(b"(19)9", b"").number, 5);
     assert_eq!(read(b"(18)9", b"").number, 9);
     assert_eq!(read(b"9", b"").number, 9);

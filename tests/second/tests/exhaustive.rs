@@ -5,7 +5,7 @@
 use second::field_to_value::value_of;
 use second::rules_of_shape::Picture;
 use second::text_to_symbols::Symbol;
-use second::value_to_field::field_of;
+use second::value_to_field::field_at_own_scale;
 use std::collections::HashMap;
 
 const PLAIN: &[u8] = b"9Z*,./BS+-$";
@@ -60,7 +60,7 @@ fn fields(picture: &Picture) -> HashMap<Vec<u8>, i64> {
     let limit = 10i64.pow(picture.digits.len() as u32);
     let mut found = HashMap::new();
     for m in 1 - limit..limit {
-        if let Ok(field) = field_of(picture, m, picture.f() as u64) {
+        if let Ok(field) = field_at_own_scale(picture, m) {
             let other = found.insert(field, m);
             assert_eq!(other, None, "{picture:?}: {m} has the field of another value");
         }

@@ -5,7 +5,7 @@ use second::make::random::Random;
 use second::make::values::fitting;
 use second::make::{layouts, pictures};
 use second::rules_of_shape::Picture;
-use second::{compile, edit, is_plan, plan_edit, plan_read, read, Answer};
+use second::{compile, edit, edit_cut, is_plan, plan_edit, plan_read, read, Answer};
 use std::collections::HashSet;
 
 /// The plans of all one-picture layouts of up to three positions, written out with V at every place.
@@ -38,7 +38,7 @@ fn small_plans_are_exactly_those_of_small_pictures() {
     assert_eq!(found, known.len());
 }
 
-/// The plan and the pictures of its rebuilt layout give the same fields and values.
+/// The plan and the pictures of its rebuilt layout give the same fields, in either mode, and values.
 fn runs_as_its_layout(random: &mut Random, plan: &[u8]) {
     let layout = rebuilt_layout(plan).unwrap();
     let mut compiled = vec![0; plan.len()];
@@ -48,8 +48,10 @@ fn runs_as_its_layout(random: &mut Random, plan: &[u8]) {
     let row: Vec<i64> = pictures.iter().map(|picture| fitting(random, picture)).collect();
     let mut expected = Vec::new();
     for ((text, &m), picture) in layout.split(|&b| b == b';').zip(&row).zip(&pictures) {
-        let mut field = vec![0; picture.n()];
+        let (mut field, mut cut) = (vec![0; picture.n()], vec![0; picture.n()]);
         assert_eq!(edit(text, m, picture.f() as u64, &mut field).number, 0);
+        assert_eq!(edit_cut(text, m, picture.f() as u64, &mut cut).number, 0);
+        assert_eq!(field, cut);
         assert_eq!(read(text, &field).value, m);
         expected.extend(field);
     }

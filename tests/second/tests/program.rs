@@ -74,6 +74,9 @@ const DIFFERENCE: &str = r#"case 1: edit "ZZ9" value 5@0 into 3 bytes "..."
 fn differences_are_worded() {
     let (code, report) = judged("worded", "edit 5a5a39 5 0 2e2e2e\n", "196608 202036\n");
     assert_eq!((code, report.as_str()), (Some(1), DIFFERENCE));
+    let (_, report) = judged("worded_cut", "edit_cut 5a5a39 55 1 2e2e2e\n", "196608 202036\n");
+    assert!(report.starts_with("case 1: edit_cut \"ZZ9\" value 55@1 into 3 bytes \"...\"\n"), "{report}");
+    assert!(report.contains("length 3 memory \"  5\"\n"), "{report}");
     let (_, report) = judged("no_answer", "check 39\n", "no\tanswer\n");
     assert!(report.contains("  got      no answer line: \"no\\tanswer\"\n"), "{report}");
 }
@@ -155,7 +158,7 @@ fn missing_and_spare_answers_are_found() {
 #[test]
 fn stated_answers_agree() {
     let (cases, answers) = (output_of(&["sheet", "cases"], b""), output_of(&["sheet", "answers"], b""));
-    assert_eq!(judged("sheet", &cases, &answers), (Some(0), "199 compared, 0 differ\n".to_string()));
+    assert_eq!(judged("sheet", &cases, &answers), (Some(0), "395 compared, 0 differ\n".to_string()));
     assert_eq!(output_of(&["answer"], cases.as_bytes()), answers);
 }
 

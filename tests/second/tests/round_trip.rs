@@ -4,13 +4,19 @@ use second::make::pictures::accepted;
 use second::make::random::Random;
 use second::make::values::{fitting, for_picture};
 use second::rules_of_shape::Picture;
-use second::{edit, read, Answer};
+use second::{edit, edit_cut, read, Answer};
 
-fn field(text: &[u8], m: i64, q: u64) -> Option<Vec<u8>> {
+type Edit = fn(&[u8], i64, u64, &mut [u8]) -> Answer;
+
+fn field_by(edit: Edit, text: &[u8], m: i64, q: u64) -> Option<Vec<u8>> {
     let mut out = vec![0; 64];
     let answer = edit(text, m, q, &mut out);
     out.truncate(answer.length as usize);
     (answer.number == 0).then_some(out)
+}
+
+fn field(text: &[u8], m: i64, q: u64) -> Option<Vec<u8>> {
+    field_by(edit, text, m, q)
 }
 
 /// Every value that fits if there are few, else a sample.
@@ -31,24 +37,39 @@ fn editing_then_reading_gives_the_value_back() {
         let picture = Picture::of(&text).unwrap();
         for m in values(&mut random, &picture) {
             let shown = field(&text, m, picture.f() as u64).expect("the value fits");
+            assert_eq!(field_by(edit_cut, &text, m, picture.f() as u64).as_ref(), Some(&shown));
             assert_eq!(shown.len(), picture.n());
             assert_eq!(read(&text, &shown), Answer::value(m), "{}", text.escape_ascii());
         }
     }
 }
 
-#[test]
-fn values_of_any_scale_come_back_cut() {
-    let mut random = Random::new(2);
+/// Values of any scale come back as this quotient of M * 10^f by 10^q, and have no field where the picture doesn't hold it.
+fn come_back(edit: Edit, seed: u64, quotient: impl Fn(i128, i128) -> i128) {
+    let mut random = Random::new(seed);
     for _ in 0..40_000 {
         let text = accepted(&mut random);
         let picture = Picture::of(&text).unwrap();
         let (m, q) = for_picture(&mut random, &picture);
-        if let Some(shown) = field(&text, m, q) {
-            let cut = i128::from(m) * 10i128.pow(picture.f() as u32) / 10i128.pow(q as u32);
-            assert_eq!(i128::from(read(&text, &shown).value), cut, "{} {m}@{q}", text.escape_ascii());
+        if m.unsigned_abs() >= 10u64.pow(18) || q > 18 {
+            assert_eq!(field_by(edit, &text, m, q), None);
+            continue;
         }
+        let n = quotient(i128::from(m) * 10i128.pow(picture.f() as u32), 10i128.pow(q as u32));
+        let fits = n.abs() < 10i128.pow(picture.digits.len() as u32) && (n >= 0 || picture.signed());
+        let back = field_by(edit, &text, m, q).map(|shown| i128::from(read(&text, &shown).value));
+        assert_eq!(back, fits.then_some(n), "{} {m}@{q}", text.escape_ascii());
     }
+}
+
+#[test]
+fn values_of_any_scale_come_back_rounded() {
+    come_back(edit, 2, |product, power| product.signum() * (2 * product.abs() + power).div_euclid(2 * power));
+}
+
+#[test]
+fn values_of_any_scale_come_back_cut() {
+    come_back(edit_cut, 6, |product, power| product / power);
 }
 
 #[test]
@@ -68,7 +89,9 @@ fn the_largest_values_come_back() {
             }
         }
         for (m, q) in [(largest + 1, f), (-largest - 1, f), (largest, 19), (0, 19)] {
-            assert_eq!(edit(text, m, q, &mut [0; 64]).number, 6, "{} {m}@{q}", text.escape_ascii());
+            for edit in [edit, edit_cut] {
+                assert_eq!(edit(text, m, q, &mut [0; 64]).number, 6, "{} {m}@{q}", text.escape_ascii());
+            }
         }
     }
 }
@@ -102,7 +125,7 @@ fn one_byte_more_or_less_is_a_wrong_length() {
     for _ in 0..500 {
         let text = accepted(&mut random);
         let picture = Picture::of(&text).unwrap();
-        let mut shown = field(&text, 1, 18).expect("every picture takes it");
+        let mut shown = field(&text, 0, 18).expect("every picture takes it");
         shown.push(b' ');
         assert_eq!(read(&text, &shown).number, 9);
         shown.truncate(picture.n() - 1);

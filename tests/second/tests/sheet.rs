@@ -1,24 +1,53 @@
-//! The sheet of examples, the plan examples, the additions to totals sheets and the manual's examples, each held against the calls of
+//! The sheet of examples, the plan examples, the additions to totals sheets and the manuals' examples, each held against the calls of
 //! this program.
 
 use second::manual::{examples, Example};
 use second::rules_of_shape::Picture;
 use second::sheet_of_examples::{self as sheet, blanks, stated, totals};
-use second::{check, compile, edit, is_plan, plan_edit, plan_read, read, Answer};
+use second::value_to_field::Mode;
+use second::{check, compile, edit, edit_cut, is_plan, plan_edit, plan_read, read, Answer};
 
 fn refusal(number: u64, field: u64) -> Answer {
     Answer { number, field, length: 0, value: 0 }
 }
 
+/// In this mode the value has the field or, where there is none, is refused with the number.
+fn edits_to(mode: Mode, text: &str, m: i64, q: u64, outcome: Result<&[u8], u64>) {
+    let (expected, field) = match outcome {
+        Ok(field) => (Answer::success(field.len()), field),
+        Err(number) => (refusal(number, 0), &[b'#'; 64][..]),
+    };
+    let mut out = vec![b'#'; field.len()];
+    let answer = match mode {
+        Mode::Rounding => edit(text.as_bytes(), m, q, &mut out),
+        Mode::Cut => edit_cut(text.as_bytes(), m, q, &mut out),
+    };
+    assert_eq!((answer, &out[..]), (expected, field), "{mode:?} {text} {m}@{q}");
+}
+
 #[test]
 fn edited_lines() {
-    for &(text, m, q, field) in sheet::EDITED {
-        let mut out = vec![b'#'; field.len()];
-        assert_eq!(edit(text.as_bytes(), m, q, &mut out), Answer::success(field.len()), "{text} {m}@{q}");
-        assert_eq!(out, blanks(field), "{text} {m}@{q}");
+    for mode in Mode::BOTH {
+        for &(text, m, q, field) in sheet::EDITED {
+            edits_to(mode, text, m, q, Ok(&blanks(field)));
+        }
+        for &(text, m, q, number) in sheet::EDITING_REFUSED {
+            edits_to(mode, text, m, q, Err(number));
+        }
     }
-    for &(text, m, q, number) in sheet::EDITING_REFUSED {
-        assert_eq!(edit(text.as_bytes(), m, q, &mut [0; 64]), refusal(number, 0), "{text} {m}@{q}");
+}
+
+#[test]
+fn lines_of_more_places_than_the_picture() {
+    for &(text, m, q, rounded, cut) in sheet::FRACTIONS {
+        let places = Picture::of(text.as_bytes()).expect(text).f() as u64;
+        assert!(q > places, "{text} {m}@{q} has no more");
+        for (mode, outcome) in [(Mode::Rounding, rounded), (Mode::Cut, cut)] {
+            match outcome {
+                Ok(field) => edits_to(mode, text, m, q, Ok(&blanks(field))),
+                Err(number) => edits_to(mode, text, m, q, Err(number)),
+            }
+        }
     }
 }
 
@@ -66,20 +95,16 @@ fn plan_of_a_punched_digit() {
 #[test]
 fn manual_examples() {
     let all = examples();
-    assert_eq!(all.len(), 83);
+    assert_eq!(all.len(), 85);
     for (text, example) in all {
         let picture = Picture::of(text.as_bytes()).expect(text);
         match example {
             Example::Accept { n, i, f } => {
                 assert_eq!((picture.n(), picture.i(), picture.f()), (n, i, f), "{text}");
             }
-            Example::Edit { m, q, field: Some(field) } => {
-                let mut out = vec![0; field.len()];
-                assert_eq!(edit(text.as_bytes(), m, q, &mut out), Answer::success(field.len()), "{text} {m}@{q}");
-                assert_eq!(out, field, "{text} {m}@{q}");
-            }
-            Example::Edit { m, q, field: None } => {
-                assert_eq!(edit(text.as_bytes(), m, q, &mut [0; 64]), refusal(8, 0), "{text} {m}@{q}");
+            Example::Edit { modes, m, q, field } => {
+                assert_eq!(modes == Mode::BOTH, q <= picture.f() as u64, "{text} {m}@{q}");
+                modes.iter().for_each(|&mode| edits_to(mode, text, m, q, field.as_deref().ok_or(8)));
             }
             Example::Read { field, value: Some((m, q)) } => {
                 assert_eq!(read(text.as_bytes(), &field), Answer::value(m), "{text}");

@@ -1,4 +1,4 @@
-//! The examples of the rules and of the manual, with the answers stated there. Those of single pictures are tried by layouts of
+//! The examples of the rules and of the manuals, with the answers stated there. Those of single pictures are tried by layouts of
 //! one.
 
 use crate::{lent, reply, same};
@@ -43,7 +43,7 @@ fn by_layout(case: &Case) -> Option<Case> {
     let picture = |text: &[u8]| Picture::of(text).expect("an accepted picture");
     Some(match case.clone() {
         Case::Check { text } => Case::Compile { layout: [&text[..], b";"].concat(), plan: lent(80) },
-        Case::Edit { text, m, q, out } => {
+        Case::Edit { text, m, q, out, .. } => {
             let picture = picture(&text);
             if picture.f() as u64 != q {
                 return None;

@@ -4,7 +4,7 @@ use super::random::Random;
 use super::values;
 use crate::rules_of_shape::Picture;
 use crate::text_to_symbols::Symbol;
-use crate::value_to_field::field_of;
+use crate::value_to_field::field_at_own_scale;
 
 const CHARACTERS: &[u8] = b"0123456789 *+-$,./CRDB{}AIJN";
 
@@ -47,7 +47,7 @@ pub fn record(random: &mut Random, pictures: &[Picture]) -> Vec<u8> {
 /// The field of a value that fits.
 pub fn edited(random: &mut Random, picture: &Picture) -> Vec<u8> {
     let m = values::fitting(random, picture);
-    field_of(picture, m, picture.f() as u64).expect("the value fits")
+    field_at_own_scale(picture, m).expect("the value fits")
 }
 
 /// The field changed without a change of its length; at times it is a field again.

@@ -11,25 +11,38 @@ pub mod values;
 use crate::cases::Case;
 use crate::layouts_and_plans::{pictures_of_layout, pictures_of_plan, plan_of, record_length};
 use crate::rules_of_shape::Picture;
+use crate::value_to_field::Mode;
 use random::Random;
 
 /// The kinds of cases that can be asked for.
-pub const KINDS: [&str; 10] =
-    ["check", "edit", "read", "compile", "plan_read", "plan_edit", "totals_add", "picture", "layout", "all"];
+pub const KINDS: [&str; 11] = [
+    "check",
+    "edit",
+    "edit_cut",
+    "read",
+    "compile",
+    "plan_read",
+    "plan_edit",
+    "totals_add",
+    "picture",
+    "layout",
+    "all",
+];
 
 /// One case of a kind; None if there is no such kind.
 pub fn case(kind: &str, random: &mut Random) -> Option<Case> {
     let made = match kind {
         "check" => check(random),
-        "edit" => edit(random),
+        "edit" => edit(random, Mode::Rounding),
+        "edit_cut" => edit(random, Mode::Cut),
         "read" => read(random),
         "compile" => compile(random),
         "plan_read" => plan_read(random),
         "plan_edit" => plan_edit(random),
         "totals_add" => totals_add(random),
-        "picture" => return case(random.pick(&KINDS[..3]), random),
-        "layout" => return case(random.pick(&KINDS[3..6]), random),
-        "all" => return case(random.pick(&KINDS[..7]), random),
+        "picture" => return case(random.pick(&KINDS[..4]), random),
+        "layout" => return case(random.pick(&KINDS[4..7]), random),
+        "all" => return case(random.pick(&KINDS[..8]), random),
         _ => return None,
     };
     Some(made)
@@ -39,7 +52,7 @@ fn check(random: &mut Random) -> Case {
     Case::Check { text: pictures::text(random, 50) }
 }
 
-fn edit(random: &mut Random) -> Case {
+fn edit(random: &mut Random, mode: Mode) -> Case {
     let text = pictures::text(random, 88);
     let picture = Picture::of(&text).ok();
     let (m, q) = match &picture {
@@ -47,7 +60,7 @@ fn edit(random: &mut Random) -> Case {
         None => values::at_the_edges(random),
     };
     let out = lent(random, picture.map_or(5, |p| p.n()), 1);
-    Case::Edit { text, m, q, out }
+    Case::Edit { mode, text, m, q, out }
 }
 
 fn read(random: &mut Random) -> Case {

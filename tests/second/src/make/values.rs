@@ -1,4 +1,4 @@
-//! Values for cases: most fit their picture, at and beside the places where a digit is gained or the cut bites.
+//! Values for cases: most fit their picture, at and beside the places where a digit is gained or rounding turns.
 
 use super::random::Random;
 use crate::collector;
@@ -14,15 +14,15 @@ pub fn for_picture(random: &mut Random, picture: &Picture) -> (i64, u64) {
     let f = picture.f() as u64;
     match random.below(20) {
         0 | 1 => at_the_edges(random),
-        2 | 3 => cut_to_zero(random, f),
-        4 => (beyond(random, picture), f),
-        5 => (magnitude(random, picture.digits.len()), scale(random)),
-        6 => (-magnitude(random, picture.digits.len()), f),
-        7..=12 => (fitting(random, picture), f),
-        _ => {
+        2 => (beyond(random, picture), f),
+        3 => (magnitude(random, picture.digits.len()), scale(random)),
+        4 => (-magnitude(random, picture.digits.len()), f),
+        5..=7 => (fitting(random, picture), f),
+        8..=10 => {
             let m = fitting(random, picture);
             rescaled(random, m, f)
         }
+        _ => with_more_places(random, picture),
     }
 }
 
@@ -105,12 +105,45 @@ fn of_digits(random: &mut Random, digits: usize) -> i64 {
     }
 }
 
-/// A negative value, most times, whose magnitude the cut at scale f leaves zero.
-fn cut_to_zero(random: &mut Random, f: u64) -> (i64, u64) {
-    let q = (f + 1 + random.pick(&[0, 1, 2, 3, MOST_SCALE])).min(MOST_SCALE);
-    let below = power(q.saturating_sub(f) as usize);
-    let m = random.pick(&[below - 1, below / 2, 1]);
-    (if random.percent(80) { -m } else { m }, q)
+/// A value of more places than the picture, where there is one: of as many digits as a value may have, or of few.
+fn with_more_places(random: &mut Random, picture: &Picture) -> (i64, u64) {
+    let (digits, f) = (picture.digits.len(), picture.f());
+    let most = Picture::MOST_DIGITS - f;
+    if most == 0 {
+        return (fitting(random, picture), f as u64);
+    }
+    let (full, any) = ((Picture::MOST_DIGITS - digits).max(1), random.between(1, most));
+    let more = random.pick(&[1, 1, most.min(2), most, full, any, any]);
+    let kept = about_to_carry(random, digits.min(Picture::MOST_DIGITS - more));
+    let m = kept * power(more) + about_a_half(random, more);
+    let negative = random.percent(if picture.signed() || kept == 0 { 50 } else { 8 });
+    (if negative { -m } else { m }, (f + more) as u64)
+}
+
+/// A number of so many digits at most: 0, nines at its end, nines alone, or any.
+fn about_to_carry(random: &mut Random, digits: usize) -> i64 {
+    let nines = random.between(0, digits);
+    match random.below(10) {
+        0..=2 => 0,
+        3 | 4 => power(digits) - 1,
+        5 | 6 => random.between(1, power(digits - nines) as usize) as i64 * power(nines) - 1,
+        _ => magnitude(random, digits),
+    }
+}
+
+/// What so many places hold: a half, what stands next to it, or what begins as a half or as less, in most cases.
+fn about_a_half(random: &mut Random, places: usize) -> i64 {
+    let (half, tenth) = (power(places) / 2, power(places - 1));
+    let behind = random.below(tenth as usize) as i64;
+    match random.below(10) {
+        0..=2 => half,
+        3 => half + 1,
+        4 | 5 => half - 1,
+        6 => half + behind,
+        7 => half - tenth + behind,
+        8 => power(places) - 1,
+        _ => random.below(power(places) as usize) as i64,
+    }
 }
 
 /// One more than fits, or somewhat more.
@@ -124,7 +157,7 @@ fn beyond(random: &mut Random, picture: &Picture) -> i64 {
     }
 }
 
-/// A value at another scale that is cut to M at scale f, or to less where the scale is smaller than f.
+/// A value at another scale of which the cut at scale f leaves M, or less than M where the scale is smaller than f.
 fn rescaled(random: &mut Random, m: i64, f: u64) -> (i64, u64) {
     let q = scale(random);
     if q < f {
