@@ -62,9 +62,9 @@ extern "C" {
 #endif
 
 /* The version of this header and its library, as text and as numbers; docs/COLLECTOR.md says what changes which number. */
-#define MORVENKA_VERSION "2.2.0"
-#define MORVENKA_VERSION_MAJOR 2
-#define MORVENKA_VERSION_MINOR 2
+#define MORVENKA_VERSION "3.0.0"
+#define MORVENKA_VERSION_MAJOR 3
+#define MORVENKA_VERSION_MINOR 0
 #define MORVENKA_VERSION_PATCH 0
 
 /* The numbers that come back. */
@@ -77,8 +77,8 @@ enum morvenka_numbers {
     MORVENKA_DIGITS = 5,      /* the picture has no digit, or over 18 */
     MORVENKA_VALUE = 6,       /* M has over 18 digits, or q is over 18 */
     MORVENKA_ROOM = 7,        /* the lent run is shorter than needed */
-    MORVENKA_SIZE = 8,        /* too large for the digits before V; or negative, not cut to zero, with no sign in the picture;
-                                 for totals, a sum too large */
+    MORVENKA_SIZE = 8,        /* too large for the digits before V, or negative with no sign in the picture: judged of what is left
+                                 when the value is rounded or cut, and zero is not negative; for totals, a sum too large */
     MORVENKA_LENGTH = 9,      /* the field or record has another length; for editing, the row has not eight bytes a field; for
                                  totals, the batch is too long or isn't of whole records, or the place is none */
     MORVENKA_CONVERSION = 10, /* no value has this field */
@@ -255,12 +255,24 @@ uint64_t morvenka_totals_add(const uint8_t *plan, size_t plan_len, const uint8_t
 uint64_t morvenka_check(const uint8_t *text, size_t text_len);
 
 /*
- * Edits the value M at scale q by a picture into the first bytes of out. Digits beyond the picture's scale f are cut off, and
- * what the cut leaves zero is plus.
+ * Edits the value M at scale q by a picture into the first bytes of out, rounded to the picture's scale f. Half of one in the last
+ * place goes away from zero, under either sign: by ZZ9V.99CR 12.344 is " 12.34  ", 12.345 is " 12.35  " and -12.345 is " 12.35CR".
+ * What is rounded to zero is plus; by a picture without a sign, a negative that isn't, as -0.005 by ZZ9V.99, is SIZE. Read back,
+ * the field gives M at the scale f.
+ * A statement uses this call: what the co-operatives print on it is rounded. Pass the amount with all its places, and round nothing
+ * before. Before 3.0.0 this call cut, as morvenka_edit_cut does: MORVENKA_VERSION_MAJOR tells which it is.
  * Success: the length is n, the characters written, at most MORVENKA_FIELD_MAX.
- * Refusals in order: the picture's own; VALUE; SIZE; ROOM.
+ * Refusals in order: the picture's own; VALUE; SIZE, of the rounded value, so that 99V9 refuses 99.95; ROOM.
  */
 uint64_t morvenka_edit(const uint8_t *text, size_t text_len, int64_t m, uint64_t q, uint8_t *out, size_t out_len);
+
+/*
+ * As morvenka_edit, but cut toward zero: the digits beyond f are left out. By ZZ9V.99CR 12.345 is " 12.34  ", and 99.95 by 99V9 is "999".
+ * What is cut to zero is plus, and SIZE is judged of what the cut leaves.
+ * This call is for a field that must be the one that an assignment to the picture in PL/I gives, or morvenka_edit before 3.0.0: to
+ * compare with the file of an old run. Where q is f or less nothing is rounded or cut, and the two calls do the same.
+ */
+uint64_t morvenka_edit_cut(const uint8_t *text, size_t text_len, int64_t m, uint64_t q, uint8_t *out, size_t out_len);
 
 /*
  * Reads a field by its picture; its M, at the picture's scale f, goes into the first eight bytes of row.

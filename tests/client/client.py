@@ -7,7 +7,7 @@ PLAN_MAX, RECORD_MAX = 2147, 2048  # sizes that suffice for anything accepted
 DIGITS = 0, 1, 15, 16, 17  # the roles of digits in a plan
 NAMES = "OK TEXT SYMBOL LONG SHAPE DIGITS VALUE ROOM SIZE LENGTH CONVERSION COUNT PLAN INPUT FULL".split()
 
-library = ctypes.CDLL("libmorvenka.so.2")
+library = ctypes.CDLL("libmorvenka.so.3")
 
 
 class Refused(Exception):

@@ -34,7 +34,7 @@
 
 enum { STACK = 1 << 15, STEP = 64, FIELDS = 32, TEXT_MAX = 128, LAYOUT_MAX = 4128, POSITIONS = 64, MOST_DIGITS = 18 };
 
-enum which { CHECK, EDIT, READ, COMPILE, PLAN_READ, PLAN_EDIT, TOTALS_ADD, KNOWN, CALLS };
+enum which { CHECK, EDIT, EDIT_CUT, READ, COMPILE, PLAN_READ, PLAN_EDIT, TOTALS_ADD, KNOWN, CALLS };
 
 /* The calls by the kinds of their arguments. */
 enum kind { BY_TEXT, BY_VALUE, BY_TWO, BY_THREE, BY_PLACE };
@@ -144,7 +144,8 @@ static uint64_t known(const uint8_t *a, size_t b)
 
 static const struct call calls[CALLS] = {
     [CHECK] = {"morvenka_check", BY_TEXT, {.by_text = morvenka_check}, BOUND(1640, 1744), 0},
-    [EDIT] = {"morvenka_edit", BY_VALUE, {.by_value = morvenka_edit}, BOUND(1928, 2016), BOUND(608, 560)},
+    [EDIT] = {"morvenka_edit", BY_VALUE, {.by_value = morvenka_edit}, BOUND(1608, 1696), BOUND(768, 752)},
+    [EDIT_CUT] = {"morvenka_edit_cut", BY_VALUE, {.by_value = morvenka_edit_cut}, BOUND(1608, 1696), BOUND(768, 752)},
     [READ] = {"morvenka_read", BY_THREE, {.by_three = morvenka_read}, BOUND(1704, 1824), 0},
     [COMPILE] = {"morvenka_compile", BY_TWO, {.by_two = morvenka_compile}, BOUND(1768, 1904), 0},
     [PLAN_READ] = {"morvenka_plan_read", BY_THREE, {.by_three = morvenka_plan_read}, BOUND(1208, 1152), 0},
@@ -318,10 +319,25 @@ static size_t check(const char *text, unsigned number)
     return morvenka_length(measure(job, text, number, 0));
 }
 
+/* By one of the two calls that edit a value. */
+static void edit_by(enum which which, const char *text, int64_t m, uint64_t q, struct lent out, unsigned number)
+{
+    struct job job = {.which = which, .first = run_of(text), .m = m, .q = q, .lent = out};
+    measure(job, text, number, 0);
+}
+
+/* By both, which answer alike. */
 static void edit(const char *text, int64_t m, uint64_t q, struct lent out, unsigned number)
 {
-    struct job job = {.which = EDIT, .first = run_of(text), .m = m, .q = q, .lent = out};
-    measure(job, text, number, 0);
+    edit_by(EDIT_CUT, text, m, q, out, number);
+    edit_by(EDIT, text, m, q, out, number);
+}
+
+/* By both, each with its own number. */
+static void edit_apart(const char *text, int64_t m, uint64_t q, struct lent out, unsigned rounded, unsigned cut)
+{
+    edit_by(EDIT, text, m, q, out, rounded);
+    edit_by(EDIT_CUT, text, m, q, out, cut);
 }
 
 static void read_field(const char *text, struct run field, struct lent row, unsigned number)
@@ -403,6 +419,25 @@ static void read_back(const struct picture *p, const uint8_t *field, size_t n, i
     }
 }
 
+/*
+ * Values with more places than the picture: the largest below 1, which is rounded to 1 where the picture has fewer than 18 places; halves of
+ * its last place, and what is less. To the largest that it holds a half is added too, where M has a digit for it.
+ */
+static void halves(const struct picture *p, struct lent lent)
+{
+    uint64_t q = (uint64_t)p->places + 1;
+    int takes_one = p->digits > p->places;
+    edit_apart(p->text, most_of(MOST_DIGITS), MOST_DIGITS, lent, takes_one || q > MOST_DIGITS ? MORVENKA_OK : MORVENKA_SIZE, MORVENKA_OK);
+    if (q > MOST_DIGITS)
+        return;
+    edit(p->text, 4, q, lent, MORVENKA_OK);
+    edit(p->text, -4, q, lent, MORVENKA_OK);
+    edit(p->text, 5, q, lent, MORVENKA_OK);
+    edit_apart(p->text, -5, q, lent, p->has_sign ? MORVENKA_OK : MORVENKA_SIZE, MORVENKA_OK);
+    if (p->digits < MOST_DIGITS)
+        edit_apart(p->text, 10 * most_of(p->digits) + 5, q, lent, MORVENKA_SIZE, MORVENKA_OK);
+}
+
 /* A picture checked, and values at the ends of its range and beyond them. */
 static void one_picture(const struct picture *p)
 {
@@ -419,7 +454,7 @@ static void one_picture(const struct picture *p)
     }
     edit(p->text, most, q, (struct lent){out, n - 1}, MORVENKA_ROOM);
     edit(p->text, most + 1, q, lent, p->digits == MOST_DIGITS ? MORVENKA_VALUE : MORVENKA_SIZE);
-    edit(p->text, most_of(MOST_DIGITS), MOST_DIGITS, lent, MORVENKA_OK);
+    halves(p, lent);
     edit(p->text, 0, MOST_DIGITS + 1, lent, MORVENKA_VALUE);
     edit(p->text, 0, UINT64_MAX, lent, MORVENKA_VALUE);
     edit(p->text, INT64_MIN, 0, lent, MORVENKA_VALUE);
