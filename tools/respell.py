@@ -93,13 +93,14 @@ def code(text, names):
     return WORD.sub(lambda m: names.get(m.group(0), m.group(0)), text)
 
 
-def without_dashes(names):
-    return {old: new for old, new in names.items() if "-" not in old}
+def with_capitals(names):
+    """Names that no function of src/ has."""
+    return {old: new for old, new in names.items() if re.search("[a-z0-9][A-Z]", old)}
 
 
 def prose(text, names):
     """A comment or a page: spans turn whole, and elsewhere the names that no prose has."""
-    camel = {old: new for old, new in names.items() if re.search("[a-z0-9][A-Z]", old)}
+    camel = with_capitals(names)
     out, at = [], 0
     for m in SPAN.finditer(text):
         out += [code(text[at : m.start()], camel), code(m.group(0), names)]
@@ -153,7 +154,7 @@ def main(words):
         text = read(path)
         skip = foreign(text)
         here = {old: new for old, new in names.items() if old not in skip}
-        write(path, text, turned(text, here, here if path.endswith(".antt") else without_dashes(here)))
+        write(path, text, turned(text, here, here if path.endswith(".antt") else with_capitals(here)))
     for path in files(".edit"):
         text = read(path)
         write(path, text, code(text, before))

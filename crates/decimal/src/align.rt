@@ -7,7 +7,7 @@ ghost use Rattle.decimal.specs.Align.{aligned_of};
 use rules::{Picture, Rounding};
 
 // Where `fits` is false the digits do not hold the number, or an argument is out of range; `t` is then 0.
-#[derive(Drop)]
+#[derive(Clone, Copy)]
 pub struct Aligned {
     pub fits: bool,
     pub t: u64,

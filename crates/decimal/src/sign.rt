@@ -5,7 +5,7 @@ ghost use Rattle.decimal.specs.Sign.{parts_of};
 use rules::Picture;
 
 // Where `fits` is false the number is as far from zero as the limit or further, and the rest is empty.
-#[derive(Drop)]
+#[derive(Clone, Copy)]
 pub struct Parts {
     pub fits: bool,
     pub negative: bool,

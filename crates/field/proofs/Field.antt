@@ -21,7 +21,7 @@ use Rattle.rules.proofs.Stretch.{drifts_in, stretch_from, stretch_to}
 use Rattle.roles.specs.Table.{characters}
 use Rattle.roles.proofs.ByTable.{figure_by_lem, mark_by_lem}
 use Rattle.field.specs.Results.{field_by, printed_at, printed_by, shown_at}
-use Rattle.field.proofs.Hidden.{digit_due, hidden_is, spot_is}
+use Rattle.field.proofs.Hiding.{digit_due, hidden_is, spot_is}
 
 pub length_by : (table : List ℕ) (φ : Form) (negative : Bool) (t : ℕ) → length (field_by table φ negative t) ≡ size φ
 unfolding field_by

@@ -1,7 +1,7 @@
 pub mod Loops
 pub mod Left
 pub mod Bytes
-pub mod Hidden
+pub mod Hiding
 pub mod Field
 pub mod Turns
 pub mod Puts

@@ -24,7 +24,7 @@ use Rattle.field.specs.declared.step.Step.{Step}
 use Rattle.field.proofs.Bytes.{sets_less}
 use Rattle.field.proofs.Field.{punched_digit}
 use Rattle.field.proofs.Left.{left_back}
-use Rattle.field.proofs.Hidden.{hidden_before, hidden_left, hidden_not, hidden_parts, lead_before, lead_mark, reach_is, reach_le}
+use Rattle.field.proofs.Hiding.{hidden_before, hidden_left, hidden_not, hidden_parts, lead_before, lead_mark, reach_is, reach_le}
 
 -- a step is its two parts
 made : (s : Step) → s ≡ record { prints = s.prints; left = s.left }

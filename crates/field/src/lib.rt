@@ -16,7 +16,7 @@ use survey::{any_nine, survey_of};
 use writing::{put_blank, put_shown};
 
 // The digits before and after V, and whether the form has a sign.
-#[derive(Drop)]
+#[derive(Clone, Copy)]
 pub struct Measured {
     pub whole: usize,
     pub places: usize,

@@ -8,14 +8,14 @@ use roles::table::{Characters, figure_by, mark_by};
 use roles::{is_bare, is_punched};
 use rules::Picture;
 
-#[derive(Drop)]
+#[derive(Clone, Copy)]
 pub(crate) struct Step {
     pub prints: u8,
     pub left: u64,
 }
 
 // The last digit of a magnitude, and what stands before it.
-#[derive(Drop)]
+#[derive(Clone, Copy)]
 struct Tens {
     digit: u8,
     rest: u64,

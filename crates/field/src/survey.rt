@@ -9,7 +9,7 @@ ghost use Rattle.field.specs.Steps.{survey_of};
 
 use roles::{is_digit, is_nine, is_sign, sign_drifts};
 
-#[derive(Drop)]
+#[derive(Clone, Copy)]
 pub(crate) struct Survey {
     pub whole: usize,
     pub places: usize,

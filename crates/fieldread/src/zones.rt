@@ -12,7 +12,7 @@ use roles::{before_vee, does_drift, does_open, is_b, is_bare, is_digit, is_nine}
 
 // What the positions passed say: the value of their digits, and whether what tells the sign is that of plus and that of minus. Positions
 // of the stretch have no part in it.
-#[derive(Drop)]
+#[derive(Clone, Copy)]
 pub(crate) struct Said {
     pub value: u64,
     pub plus: bool,
@@ -20,7 +20,7 @@ pub(crate) struct Said {
 }
 
 // What has been said before position `at`.
-#[derive(Drop)]
+#[derive(Clone, Copy)]
 pub(crate) struct Passed {
     pub at: usize,
     pub said: Said,
@@ -28,7 +28,7 @@ pub(crate) struct Passed {
 
 // The stretch up to where printing starts, which is `to`; where a symbol drifts, `last` is the last character in it that is no B's. Where `ok`
 // is false the field is no value's, and the rest says nothing.
-#[derive(Drop)]
+#[derive(Clone, Copy)]
 pub(crate) struct Hidden {
     pub ok: bool,
     pub to: usize,

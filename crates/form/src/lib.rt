@@ -10,28 +10,28 @@ use roles::marks::mark_at;
 use rules::Picture;
 
 // Roles with their count in a room of 64, 0 behind them.
-#[derive(Drop)]
+#[derive(Clone, Copy)]
 pub struct Roles {
     pub at: [u8; Picture::MOST_SYMBOLS],
     pub count: usize,
 }
 
 // Roles placed so far, and whether a symbol of the kind has gone before; under Z and * that holds from the start.
-#[derive(Drop)]
+#[derive(Clone, Copy)]
 pub struct Placed {
     pub roles: Roles,
     pub met: bool,
 }
 
 // What a picture has of suppression: its kind, and how many kinds there are in it.
-#[derive(Drop)]
+#[derive(Clone, Copy)]
 pub struct Suppression {
     pub kind: u8,
     pub kinds: usize,
 }
 
 // A form: the roles of its positions with their number, the positions before V, and the kind.
-#[derive(Drop)]
+#[derive(Clone, Copy)]
 pub struct Meaning {
     pub roles: [u8; Picture::MOST_SYMBOLS],
     pub size: usize,

@@ -21,7 +21,7 @@ pub(crate) fn next_end(layout: &[u8], from: usize) -> usize
 }
 
 // RULES 5.1: COUNT is given where this fails. A layout that is empty isn't ended by `;`.
-pub(crate) fn count_fits_lem(layout: &[u8]) -> bool
+pub(crate) fn count_fits(layout: &[u8]) -> bool
     ensures { result ≡ count_fits layout.now }
 {
     if MOST_LAYOUT < layout.len() {

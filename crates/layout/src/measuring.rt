@@ -8,7 +8,7 @@ use form::form_of;
 use picture::verdict::judge;
 
 // The number of the first bad picture, beside its 1-based field; or 0, beside the number of pictures and the record length.
-#[derive(Drop)]
+#[derive(Clone, Copy)]
 pub struct Measured {
     pub number: u8,
     pub field: u8,

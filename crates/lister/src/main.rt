@@ -13,7 +13,7 @@ use listing::{INPUT, LINE, PLAN, RECORD};
 
 // What has come of the records: how many there are, how many are refused, how many end in a carriage return, and whether every line of the
 // listing has been written.
-#[derive(Drop)]
+#[derive(Clone, Copy)]
 pub(crate) struct Course {
     pub records: usize,
     pub refused: usize,

@@ -26,7 +26,7 @@ pub const PLAN: usize = 1 + 3 * MOST_PICTURES + 2 + RECORD;
 pub const INPUT: usize = MOST_INPUT + 1;
 
 // The plan's length, 0 where the layout is refused; and the line's.
-#[derive(Drop)]
+#[derive(Clone, Copy)]
 pub struct Listed {
     pub plan: usize,
     pub line: usize,

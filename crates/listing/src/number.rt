@@ -5,7 +5,7 @@ ghost use Rattle.rules.specs.Lister.{decimal, signed_decimal};
 ghost use Rattle.listing.specs.Put.{Puts, TopIs};
 
 // How many digits a number has, and the power of ten that its first digit counts.
-#[derive(Drop)]
+#[derive(Clone, Copy)]
 pub(crate) struct Top {
     pub digits: usize,
     pub power: u64,

@@ -13,7 +13,7 @@ use rules::MOST_PICTURES;
 use totals::Sheet;
 
 // What has come of a record: 0 or the number of the refusal, the length of its line, and the sheet.
-#[derive(Drop)]
+#[derive(Clone, Copy)]
 pub struct Entered {
     pub number: u8,
     pub line: usize,

@@ -12,7 +12,7 @@ use shape::Judged;
 use text::no_symbols;
 
 // The number of a text's refusal, beside an empty picture; or 0, beside the picture.
-#[derive(Drop)]
+#[derive(Clone, Copy)]
 pub struct Verdict {
     pub number: u8,
     pub picture: Picture,

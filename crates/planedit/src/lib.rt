@@ -14,7 +14,7 @@ use roles::table::character_table;
 use rules::{Answer, Picture};
 
 // The first field whose value is refused, counted from 1, with VALUE or SIZE; both 0 where none is.
-#[derive(Drop)]
+#[derive(Clone, Copy)]
 struct Bad {
     number: u8,
     field: u8,

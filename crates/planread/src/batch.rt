@@ -114,7 +114,7 @@ pub fn add(plan: &[u8], batch: &[u8], place: usize, sheet: Sheet) -> Added
 }
 
 // Whether the adding of a batch goes on behind a record with this answer: it was added, or a field of it says nothing.
-fn goes_on_lem(answer: Answer) -> bool
+fn goes_on(answer: Answer) -> bool
     ensures { result ≡ goes_on answer }
 {
     if 0 < answer.length {

@@ -9,7 +9,7 @@ ghost use Rattle.rules.specs.Powers.{powers};
 
 // What a call hands back (RULES 6.2 to 6.4). A refusal has its number, the field it lies in or 0, length 0 and value 0; number 0 is
 // success, with the call's length and, where a single field is read, its value.
-#[derive(Drop)]
+#[derive(Clone, Copy)]
 pub struct Answer {
     pub number: u8,
     pub field: u8,
@@ -19,7 +19,7 @@ pub struct Answer {
 
 // The symbols of a picture with their count, in a room of 64 (RULES 1.6). Places behind the count are 0, and all of them where a text
 // is refused.
-#[derive(Drop)]
+#[derive(Clone, Copy)]
 pub struct Picture {
     pub symbols: [u8; Picture::MOST_SYMBOLS],
     pub count: usize,
@@ -103,7 +103,7 @@ pub const MOST_LAYOUT: usize = 4128;
 pub const MOST_INPUT: usize = 65536;
 
 // What becomes of a fraction that a picture has no places for (RULES 3.2).
-#[derive(Drop)]
+#[derive(Clone, Copy)]
 pub enum Rounding {
     // a half or more counts as one, away from zero under either sign
     HalfAway,
@@ -112,7 +112,7 @@ pub enum Rounding {
 }
 
 // What has been read of a factor, in going through a picture text.
-#[derive(Drop)]
+#[derive(Clone, Copy)]
 pub enum Mode {
     // nothing: a symbol, a factor or a mark may come
     Plain,
@@ -128,7 +128,7 @@ pub enum Mode {
 }
 
 // What a field says: the one value that edits to it, or that there is none.
-#[derive(Drop)]
+#[derive(Clone, Copy)]
 pub enum Reading {
     Value(i64),
     Conversion,

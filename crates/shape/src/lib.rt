@@ -21,14 +21,14 @@ const MOST_DIGITS: u64 = Picture::MOST_DIGITS as u64;
 const UNBROKEN: usize = 57;
 
 // What a walk over roles found.
-#[derive(Drop)]
+#[derive(Clone, Copy)]
 struct Walked {
     pub phase: usize,
     pub sum: u64,
 }
 
 // What the pass finds of a form. Of one with more than 64 positions neither holds.
-#[derive(Drop)]
+#[derive(Clone, Copy)]
 pub struct Judged {
     // every rule holds, but for that on the number of digits
     pub shaped: bool,

@@ -9,14 +9,14 @@ use rules::{Mode, Picture};
 
 // What has been read of a text: the mode in which it ends, and the symbols that it has given. A count above 64 says how
 // many there would have been.
-#[derive(Drop)]
+#[derive(Clone, Copy)]
 pub struct Spelled {
     pub mode: Mode,
     pub picture: Picture,
 }
 
 // The symbols of a text, or the number of its refusal beside an empty picture.
-#[derive(Drop)]
+#[derive(Clone, Copy)]
 pub struct Expanded {
     pub number: u8,
     pub picture: Picture,

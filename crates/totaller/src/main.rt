@@ -15,7 +15,7 @@ use totals::Sheet;
 
 // What has come of the records looked at: how many there are, how many are refused, how many end in a carriage return, the number of the limit
 // that the last has met, or 0, and the sheet; and whether every line of the total has been written.
-#[derive(Drop)]
+#[derive(Clone, Copy)]
 pub(crate) struct Course {
     pub records: usize,
     pub refused: usize,

@@ -18,7 +18,7 @@ pub const MOST_RECORDS: usize = 9000;
 pub const MOST_BATCH: usize = 65536;
 
 // What is kept of the records added (RULES 9.4).
-#[derive(Drop)]
+#[derive(Clone, Copy)]
 pub struct Sheet {
     pub count: usize,
     pub sums: [i64; MOST_PICTURES],
@@ -27,7 +27,7 @@ pub struct Sheet {
 }
 
 // What an addition hands back: the answer, and the sheet beside it.
-#[derive(Drop)]
+#[derive(Clone, Copy)]
 pub struct Added {
     pub answer: Answer,
     pub sheet: Sheet,
@@ -35,7 +35,7 @@ pub struct Added {
 
 // What a whole batch gives: the answer that the adding stopped with, number 0 at the batch's end; the place where it stopped; and the sheet
 // with those records of it that were accepted.
-#[derive(Drop)]
+#[derive(Clone, Copy)]
 pub struct Batched {
     pub answer: Answer,
     pub place: usize,
@@ -44,7 +44,7 @@ pub struct Batched {
 
 // What a walk over a batch hands over (RULES 9.3): a record, from its first byte up to the second number; the end; or a refusal with its
 // number.
-#[derive(Drop)]
+#[derive(Clone, Copy)]
 pub enum Next {
     Record(usize, usize),
     End,

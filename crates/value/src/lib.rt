@@ -11,7 +11,7 @@ use field::measure;
 use rules::{Picture, Rounding};
 
 // Number 0 with the sign and the aligned magnitude; or VALUE or SIZE, with plus and 0.
-#[derive(Drop)]
+#[derive(Clone, Copy)]
 pub struct Settled {
     pub number: u8,
     pub negative: bool,

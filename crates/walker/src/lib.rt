@@ -8,7 +8,7 @@ use planread::batch;
 use totals::Next;
 
 // A walker is Copy: one that is asked or moved is still there.
-#[derive(Drop)]
+#[derive(Clone, Copy)]
 pub struct Walker<'a> {
     pub batch: &'a [u8],
     pub place: usize,

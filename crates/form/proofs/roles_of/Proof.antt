@@ -32,14 +32,14 @@ with-number-requires-2 c κs =
     let m = sym a.before.mark-at.ensures ∙ a.if1.true in
     let w = walk_mark _ _ _ h.loop.placed h.loop.i a.before.before.before.loop-test.true h.loop.invariant.1 m in
     let two = mark_length h.before.before.args.symbols.now h.loop.i m in
-    rw (c.with_number.ensures, c.before.mark_number_lem.ensures.0) (w.0, rw w.1 (omega (arith, h.loop.invariant.1.few)))
+    rw (c.with_number.ensures, c.before.mark_number.ensures.0) (w.0, rw w.1 (omega (arith, h.loop.invariant.1.few)))
 
 returns : tie.Need-returns invariant-loop decreases-loop
 returns c =
     let a : tie.Then1 invariant-loop decreases-loop = c.before.before.before.before in
     let h = a.before.before.before.before in
     let w = walk_mark _ _ _ h.loop.placed h.loop.i a.before.before.before.loop-test.true h.loop.invariant.1 (sym a.before.mark-at.ensures ∙ a.if1.true) in
-    rw (c.before.with-number2.ensures, c.before.before.with_number.ensures, c.before.before.before.mark_number_lem.ensures.0) w.2
+    rw (c.before.with-number2.ensures, c.before.before.with_number.ensures, c.before.before.before.mark_number.ensures.0) w.2
 
 with-number-requires-3 : tie.Need-with-number-requires-3 invariant-loop decreases-loop
 with-number-requires-3 c κs = let w = c.before.before.before.before.before.before.loop.invariant in (w.1.whole, omega (arith, w.1.few))

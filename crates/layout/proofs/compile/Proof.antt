@@ -13,12 +13,12 @@ use Rattle.layout.proofs.compile.Tie as tie
 returns : tie.Need-returns
 returns c =
     let a = c.before in
-    let w = not_counted _ _ (sym a.before.count_fits_lem.ensures ∙ not-true _ a.if1.true) in
+    let w = not_counted _ _ (sym a.before.count_fits.ensures ∙ not-true _ a.if1.true) in
     (c.refused.ensures ∙ w.0, w.1)
 
 -- COUNT is passed
 counted : (c : tie.Else1) → count_fits c.before.before.before.before.args.layout.now ≡ true
-counted c = sym c.before.count_fits_lem.ensures ∙ not-false _ c.if1.false
+counted c = sym c.before.count_fits.ensures ∙ not-false _ c.if1.false
 
 measure-requires : tie.Need-measure-requires
 measure-requires c κs = few_pictures _ (counted c)

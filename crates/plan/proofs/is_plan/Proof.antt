@@ -26,7 +26,7 @@ returns-5 c = other_length _ _ c.before.two_bytes.ensures (λ e. omega arith)
 returns-6 : tie.Need-returns-6
 returns-6 c =
     let tested = c.before.before.before.before.before in
-    by_forms _ _ tested.before.two_bytes.ensures (omega arith) (search rules) (search rules) _ c.all_good_lem.ensures
+    by_forms _ _ tested.before.two_bytes.ensures (omega arith) (search rules) (search rules) _ c.all_good.ensures
 
 pub is-plan-spec : {M : Type 1} → statement M
 is-plan-spec =

@@ -13,17 +13,17 @@ returns-2 : tie.Need-returns-2
 returns-2 c = rw c.unspelled2.ensures (search (too_long, rules))
 
 returns-3 : tie.Need-returns-3
-returns-3 c = rw c.unspelled3.ensures (not_spelled _ (search rules) (search rules) _ _ c.before.before.before.spell.ensures c.before.before.is_plain_lem.ensures c.before.if3.true)
+returns-3 c = rw c.unspelled3.ensures (not_spelled _ (search rules) (search rules) _ _ c.before.before.before.spell.ensures c.before.before.is_plain.ensures c.before.if3.true)
 
 returns-4 : tie.Need-returns-4
 returns-4 c =
     let a = c.before.before.before.before in
-    rw c.unspelled4.ensures (too_many _ (search rules) (search rules) _ _ a.before.before.spell.ensures a.before.is_plain_lem.ensures a.if3.false (search rules))
+    rw c.unspelled4.ensures (too_many _ (search rules) (search rules) _ _ a.before.before.spell.ensures a.before.is_plain.ensures a.if3.false (search rules))
 
 returns-5 : tie.Need-returns-5
 returns-5 c =
     let a = c.before.before.before in
-    all_fits _ (search rules) (search rules) _ _ a.before.before.spell.ensures a.before.is_plain_lem.ensures a.if3.false (search rules)
+    all_fits _ (search rules) (search rules) _ _ a.before.before.spell.ensures a.before.is_plain.ensures a.if3.false (search rules)
 
 pub expand-spec : {M : Type 1} → statement M
 expand-spec =

@@ -42,7 +42,7 @@ returns c =
     let h = a.before.before.before.before.before.before in
     let t = h.before.before.before.args.text.now in
     let m = head_mark t h.loop.mode h.loop.picture h.loop.i (search rules) h.loop.invariant.1 _ _
-    (sym a.before.before.before.is_plain_lem.ensures ∙ a.before.before.if1.true) (sym a.before.mark-at.ensures ∙ a.if2.true) (two_left t h.loop.i (two a)) in
+    (sym a.before.before.before.is_plain.ensures ∙ a.before.before.if1.true) (sym a.before.mark-at.ensures ∙ a.if2.true) (two_left t h.loop.i (two a)) in
     rw (c.put2.ensures, c.before.before.put.ensures, m.0, m.1)
 
 -- where the walk goes on, no mark ends the text
@@ -51,7 +51,7 @@ quiet : (c : tie.Joined1 invariant-loop decreases-loop)
 quiet c =
     let h = c.before.before.before.before in
     let s = drop h.loop.i h.before.before.before.args.text.now in
-    ⊎_elim (λ w. not_mark _ h.loop.mode s w.1.ensures w.2.left) (λ w. not_plain _ h.loop.mode s c.before.is_plain_lem.ensures w.left) c.if1.branch
+    ⊎_elim (λ w. not_mark _ h.loop.mode s w.1.ensures w.2.left) (λ w. not_plain _ h.loop.mode s c.before.is_plain.ensures w.left) c.if1.branch
 
 loop-again : tie.Need-loop-preserved invariant-loop decreases-loop
 loop-again c =

@@ -15,7 +15,7 @@ returns-2 : tie.Need-returns-2
 unfolding is_nine
 returns-2 c =
     let b = c.before.before in
-    rw c.mark_by_lem.ensures (step_mark _ _ _ _ (sym b.is-bare.ensures ∙ c.before.if1.false) (neither (eqb b.before.args.role 0) _ b.before.requires).1)
+    rw c.mark_by.ensures (step_mark _ _ _ _ (sym b.is-bare.ensures ∙ c.before.if1.false) (neither (eqb b.before.args.role 0) _ b.before.requires).1)
 
 pub hide-step-spec : {M : Type 1} → statement M
 hide-step-spec =

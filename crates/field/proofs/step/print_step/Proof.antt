@@ -13,13 +13,13 @@ returns-2 c =
     let a = c.before in
     let p = a.before.before in
     let b = p.before.before in
-    rw c.figure_by_lem.ensures
+    rw c.figure_by.ensures
     (step_punched _ _ _ _ (sym b.is-bare.ensures ∙ p.before.if1.false) (sym p.is-punched.ensures ∙ a.before.if2.true) _ _ a.apart.ensures.0 a.apart.ensures.1)
 
 returns-3 : tie.Need-returns-3
 returns-3 c =
     let p = c.before.before in
-    rw c.mark_by_lem.ensures (step_mark _ _ _ _ (sym p.before.before.is-bare.ensures ∙ p.before.if1.false) (sym p.is-punched.ensures ∙ c.before.if2.false))
+    rw c.mark_by.ensures (step_mark _ _ _ _ (sym p.before.before.is-bare.ensures ∙ p.before.if1.false) (sym p.is-punched.ensures ∙ c.before.if2.false))
 
 pub print-step-spec : {M : Type 1} → statement M
 print-step-spec =

@@ -31,7 +31,7 @@ loop-holds c =
       refl,
       c.before.before.before.suppressed-of.ensures,
       λ vee t b l. hide_start s.args.table.now (formed s.args.roles.now vee s.args.kind) s.args.negative t s.args.from s.args.lead s.args.to s.args.out.now b _ _ l
-          (rw (c.chosen.ensures, c.before.before.does-drift.ensures, c.before.mark_by_lem.ensures, c.before.before.before.suppressed-of.ensures)),
+          (rw (c.chosen.ensures, c.before.before.does-drift.ensures, c.before.mark_by.ensures, c.before.before.before.suppressed-of.ensures)),
     )
 
 hide-step-requires : tie.Need-hide-step-requires invariant-loop decreases-loop

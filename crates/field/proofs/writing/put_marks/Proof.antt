@@ -26,7 +26,7 @@ loop-again : tie.Need-loop-preserved invariant-loop decreases-loop
 loop-again c =
     let at = c.before.before.before in
     let s = at.before.before.before in
-    (search rules, simp length-set at.loop.invariant.1, rw (at.loop.invariant.2, c.mark_by_lem.ensures) (sym (sets_more (λ j. mark_by s.args.table.now (get_or s.args.roles.now j 0) s.args.negative) _ _ _)))
+    (search rules, simp length-set at.loop.invariant.1, rw (at.loop.invariant.2, c.mark_by.ensures) (sym (sets_more (λ j. mark_by s.args.table.now (get_or s.args.roles.now j 0) s.args.negative) _ _ _)))
 
 returns : tie.Need-returns invariant-loop decreases-loop
 returns c =

@@ -4,7 +4,7 @@ use Prim.Native.Nat.{min}
 use lib.ListN.{length}
 use Rattle.field.specs.Results.{nine_in}
 use Rattle.field.specs.Steps.{lead_to}
-use Rattle.field.proofs.Hidden.{lead_between, lead_reach}
+use Rattle.field.proofs.Hiding.{lead_between, lead_reach}
 use Rattle.field.proofs.Turns.{all_parts, behind, nine_self}
 use borrow.Author.Rules.{rules}
 use Rattle.field.proofs.writing.put_shown.Statement.{statement}

@@ -4,8 +4,8 @@ use borrow.Author.Rules.{rules}
 use Prim.Native.Nat.{◌-◌}
 use lib.ListN.{length}
 use Rattle.layout.proofs.Ends.{Counting, counting_first, counting_end, counting_other, counted, too_long}
-use Rattle.layout.proofs.cutting.count_fits_lem.Statement.{statement}
-use Rattle.layout.proofs.cutting.count_fits_lem.Tie as tie
+use Rattle.layout.proofs.cutting.count_fits.Statement.{statement}
+use Rattle.layout.proofs.cutting.count_fits.Tie as tie
 
 abbrev invariant-loop : tie.invariant-loop
 invariant-loop layout count₀ closed₀ i₀ count closed i = Counting layout i count closed

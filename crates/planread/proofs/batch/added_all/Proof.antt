@@ -29,7 +29,7 @@ returns c =
     let o = c.before.before.before.before in
     let l = o.before in
     let a = l.before.before.before in
-    l.loop.invariant.1 _ (stopped _ (placed_is _ a.requires.0 _ _ _ _ o.added-at.ensures) (sym c.before.goes_on_lem.ensures ∙ not-true _ c.if1.true))
+    l.loop.invariant.1 _ (stopped _ (placed_is _ a.requires.0 _ _ _ _ o.added-at.ensures) (sym c.before.goes_on.ensures ∙ not-true _ c.if1.true))
 
 -- where the adding goes on there was a record, which ends within the batch
 found : (c : tie.Else1 invariant-loop decreases-loop)
@@ -39,7 +39,7 @@ found c =
     let o = c.before.before.before.before in
     let l = o.before in
     let a = l.before.before.before in
-    let g = sym c.before.goes_on_lem.ensures ∙ not-false _ c.if1.false in
+    let g = sym c.before.goes_on.ensures ∙ not-false _ c.if1.false in
     rw a.requires.1 (on_record a.args.plan.now a.args.batch.now l.loop.place l.loop.auto (rw o.added-at.ensures at g))
 
 add-place : tie.Need-overflow-add-place invariant-loop decreases-loop
@@ -57,7 +57,7 @@ loop-again c =
     let l = o.before in
     let a = l.before.before.before in
     let f = found c in
-    let g = sym c.before.goes_on_lem.ensures ∙ not-false _ c.if1.false in
+    let g = sym c.before.goes_on.ensures ∙ not-false _ c.if1.false in
     let n = next_is a.args.plan.now a.requires.0 a.args.batch.now l.loop.place a.args.size _ a.requires.1 (sym f.0) in
     (f.1, λ r h. l.loop.invariant.1 r (onward _ _ (placed_is _ a.requires.0 _ _ _ _ o.added-at.ensures) g n h))
 

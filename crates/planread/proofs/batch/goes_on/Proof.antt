@@ -1,8 +1,8 @@
 -- `planread::batch::goes_on` meets its contract: the two tests are those of the definition. Assumes nothing.
 use borrow.Author.Tests.{le-ltb, lt-ltb}
 use Rattle.totals.specs.History.{goes_on}
-use Rattle.planread.proofs.batch.goes_on_lem.Statement.{statement}
-use Rattle.planread.proofs.batch.goes_on_lem.Tie as tie
+use Rattle.planread.proofs.batch.goes_on.Statement.{statement}
+use Rattle.planread.proofs.batch.goes_on.Tie as tie
 
 returns : tie.Need-returns
 unfolding goes_on
