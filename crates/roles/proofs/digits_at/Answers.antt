@@ -1,0 +1,10 @@
+-- `digits_at` is the definition. Assumes nothing.
+use borrow.Author.Rules.{rules}
+use mathlib.Core.Path.{sym, ◌∙◌}
+use Rattle.roles.proofs.digits_at.Goals as goal
+
+pub returns-then-is_digit : goal.returns-then-is_digit
+returns-then-is_digit c = (rw (sym c.is_digit.ensures ∙ c.if-is_digit.true), search rules)
+
+pub returns : goal.returns
+returns c = (rw (sym c.is_digit.ensures ∙ c.if-is_digit.false), search rules)

@@ -1,0 +1,19 @@
+-- `wire::get_row` meets its contract: the numbers read stand before the places not reached. Assumes nothing.
+use mathlib.Core.Path.{◌≡◌, refl, sym, ◌∙◌}
+use mathlib.Core.List.{◌++◌}
+use Prim.Native.Nat.{◌*◌, ◌-◌, ◌≤◌}
+use native.Mathlib.Omega.{arith}
+use lib.ListN.{length, take, drop, length-set}
+use borrow.Author.Rules.{rules}
+use mir.Syntax.{w64}
+use mir.Val.{SFits}
+use mir.Facts.{to_z-of_z}
+use Rattle.rules.specs.Collector.{row_in}
+use Rattle.wire.proofs.Rows.{get_row_out, get_row_in, get_row_more}
+use Rattle.wire.proofs.get_row.Given as goal
+
+abbrev pub invariant-loop-k : goal.invariant-loop-k
+invariant-loop-k l = (l.k ≤ l.k-end) × (l.k-end ≡ length l.initial.row) × (8 * length l.initial.row ≤ length l.run) × (length l.row ≡ length l.initial.row) × (l.row ≡ take l.k (row_in (length l.initial.row) l.run) ++ drop l.k l.initial.row)
+
+abbrev pub decreases-loop-k : goal.decreases-loop-k
+decreases-loop-k l = l.k-end - l.k
