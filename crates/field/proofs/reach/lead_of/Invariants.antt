@@ -1,0 +1,17 @@
+-- `lead_of`: no digit or drifting symbol has been passed. Assumes nothing.
+use mathlib.Core.Path.{◌≡◌, sym, ◌∙◌}
+use mathlib.Core.Bool.{◌||◌}
+use lib.ListN.{get_or}
+use Rattle.rules.specs.Roles.{is_nine, opens}
+use Rattle.rules.proofs.Search.{first_here, first_le, first_more}
+use borrow.Author.Rules.{rules}
+use Prim.Native.Nat.{◌-◌, ◌≤◌}
+use native.Mathlib.Omega.{arith}
+use Rattle.field.specs.Steps.{lead_to}
+use Rattle.field.proofs.reach.lead_of.Given as goal
+
+abbrev pub invariant-loop-k : goal.invariant-loop-k
+invariant-loop-k l = (l.k ≤ l.before) × (l.k ≤ lead_to l.roles l.before)
+
+abbrev pub decreases-loop-k : goal.decreases-loop-k
+decreases-loop-k l = l.before - l.k

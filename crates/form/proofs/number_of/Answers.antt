@@ -1,0 +1,66 @@
+-- `form::number_of` meets its contract: each arm is the definition computed at its symbol; the rest is none of them. Assumes nothing.
+use borrow.Author.Tests.{ne_eqb}
+use Rattle.rules.specs.Words.{has, place}
+use Rattle.rules.specs.Form.{number}
+use Rattle.form.proofs.number_of.Goals as goal
+
+pub returns-in_default : goal.returns-in_default
+unfolding number has place
+returns-in_default c =
+    simp (ne_eqb, c.in_default.not-82, c.in_default.not-73, c.in_default.not-84, c.in_default.not-66, c.in_default.not-47, c.in_default.not-46, c.in_default.not-44, c.in_default.not-36, c.in_default.not-45, c.in_default.not-43, c.in_default.not-83, c.in_default.not-42, c.in_default.not-90, c.in_default.not-57)
+
+pub returns-in-57 : goal.returns-in-57
+unfolding number has place
+returns-in-57 c = rw c.in-57.is
+
+pub returns-in-90 : goal.returns-in-90
+unfolding number has place
+returns-in-90 c = rw c.in-90.is
+
+pub returns-in-42 : goal.returns-in-42
+unfolding number has place
+returns-in-42 c = rw c.in-42.is
+
+pub returns-in-83 : goal.returns-in-83
+unfolding number has place
+returns-in-83 c = rw c.in-83.is
+
+pub returns-in-43 : goal.returns-in-43
+unfolding number has place
+returns-in-43 c = rw c.in-43.is
+
+pub returns-in-45 : goal.returns-in-45
+unfolding number has place
+returns-in-45 c = rw c.in-45.is
+
+pub returns-in-36 : goal.returns-in-36
+unfolding number has place
+returns-in-36 c = rw c.in-36.is
+
+pub returns-in-44 : goal.returns-in-44
+unfolding number has place
+returns-in-44 c = rw c.in-44.is
+
+pub returns-in-46 : goal.returns-in-46
+unfolding number has place
+returns-in-46 c = rw c.in-46.is
+
+pub returns-in-47 : goal.returns-in-47
+unfolding number has place
+returns-in-47 c = rw c.in-47.is
+
+pub returns-in-66 : goal.returns-in-66
+unfolding number has place
+returns-in-66 c = rw c.in-66.is
+
+pub returns-in-84 : goal.returns-in-84
+unfolding number has place
+returns-in-84 c = rw c.in-84.is
+
+pub returns-in-73 : goal.returns-in-73
+unfolding number has place
+returns-in-73 c = rw c.in-73.is
+
+pub returns-in-82 : goal.returns-in-82
+unfolding number has place
+returns-in-82 c = rw c.in-82.is

@@ -1,0 +1,8 @@
+-- The definition, with what the call gives. Assumes nothing.
+use borrow.Author.Rules.{rules}
+use Rattle.shape.specs.Machine.{found_in}
+use Rattle.shape.proofs.find.Goals as goal
+
+pub returns : goal.returns
+unfolding found_in
+returns c = rw c.born_out-borne.ensures

@@ -1,0 +1,6 @@
+-- `totals::Sheet::unchanged` meets its contract: the answer is the one that `answer` makes. Assumes nothing.
+use borrow.Author.Rules.{rules}
+use Rattle.totals.proofs.Sheet.unchanged.Goals as goal
+
+pub returns : goal.returns
+returns c = rw c.refused.ensures

@@ -1,0 +1,26 @@
+-- `totals::Sheet::with_row` meets its contract: after i turns each column has the first i values over it. Assumes nothing.
+use mathlib.Core.Path.{◌≡◌, refl}
+use Prim.Native.Nat.{◌-◌, ◌<◌, ◌≤◌}
+use native.Mathlib.Omega.{arith}
+use borrow.Author.Rules.{rules}
+use lib.Dec.{eqb}
+use mir.Syntax.{w64}
+use mir.Val.{SFits}
+use mir.Facts.{to_z-of_z}
+use lib.IntN.{pos, ◌+ℤ◌}
+use lib.ListN.{length, get_or, take}
+use Rattle.totals.specs.Totals.{greater, lesser, over, with_row}
+use Rattle.totals.proofs.Columns.{over_behind, over_turn}
+use Rattle.totals.proofs.Sheet.with_row.Given as goal
+
+abbrev pub invariant-loop-i : goal.invariant-loop-i
+invariant-loop-i l =
+    (l.i ≤ l.places)
+    × (l.first ≡ eqb l.initial.self.count 0)
+    × (l.self.count ≡ l.initial.self.count)
+    × (l.self.sums ≡ over ◌+ℤ◌ l.initial.self.sums (take l.i l.row))
+    × (l.self.least ≡ over (lesser l.first) l.initial.self.least (take l.i l.row))
+    × (l.self.greatest ≡ over (greater l.first) l.initial.self.greatest (take l.i l.row))
+
+abbrev pub decreases-loop-i : goal.decreases-loop-i
+decreases-loop-i l = l.places - l.i
