@@ -14,7 +14,7 @@ pub slice_bounds-roles_of-end : goal.slice_bounds-roles_of-end
 slice_bounds-roles_of-end c = let e = c.held-end.ensures.0 in e ∙ ap length (sym (lent c.args.picture _ e))
 
 pub roles_of-roles-requires : goal.roles_of-roles-requires
-roles_of-roles-requires c = rw (← slice-aggregate-roles-of c) c.held-end.ensures.1
+roles_of-roles-requires c = rw (← slice_bounds-roles_of-end c) c.held-end.ensures.1
 
 pub returns : goal.returns
 unfolding form_of meaning_of roles_room suppression_of

@@ -1,13 +1,21 @@
 -- `form::number_of` meets its contract: each arm is the definition computed at its symbol; the rest is none of them. Assumes nothing.
 use borrow.Author.Tests.{ne_eqb}
+use native.Mathlib.Omega.{arith}
+use Rattle.std.proofs.Common.{ℕ, ◌≡◌, ◌≢◌}
 use Rattle.rules.specs.Words.{has, place}
 use Rattle.rules.specs.Form.{number}
 use Rattle.form.proofs.number_of.Goals as goal
 
-pub returns-in_default : goal.returns-in_default
+-- a byte that is none of the symbols
+none : (s : ℕ) → s ≢ 57 → s ≢ 90 → s ≢ 42 → s ≢ 83 → s ≢ 43 → s ≢ 45 → s ≢ 36 → s ≢ 44 → s ≢ 46 → s ≢ 47 → s ≢ 66 → s ≢ 84 → s ≢ 73 → s ≢ 82 → 18 ≡ number s
 unfolding number has place
+none s n57 n90 n42 n83 n43 n45 n36 n44 n46 n47 n66 n84 n73 n82 =
+    simp (ne_eqb, n57, n90, n42, n83, n43, n45, n36, n44, n46, n47, n66, n84, n73, n82)
+
+pub returns-in_default : goal.returns-in_default
 returns-in_default c =
-    simp (ne_eqb, c.in_default.not-82, c.in_default.not-73, c.in_default.not-84, c.in_default.not-66, c.in_default.not-47, c.in_default.not-46, c.in_default.not-44, c.in_default.not-36, c.in_default.not-45, c.in_default.not-43, c.in_default.not-83, c.in_default.not-42, c.in_default.not-90, c.in_default.not-57)
+    none c.args.symbol
+    (omega arith) (omega arith) (omega arith) (omega arith) (omega arith) (omega arith) (omega arith) (omega arith) (omega arith) (omega arith) (omega arith) (omega arith) (omega arith) (omega arith)
 
 pub returns-in-57 : goal.returns-in-57
 unfolding number has place

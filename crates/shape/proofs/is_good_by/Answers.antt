@@ -14,10 +14,10 @@ returns-then-kind-gt-LAST_KIND c = rw (lt-leb c.args.kind 6 (omega arith))
 
 pub returns-then-not-fits_room : goal.returns-then-not-fits_room
 unfolding good_by
-returns-then-not-fits_room c = rw (sym c.fits_room.ensures ∙ c.if-not-fits_room.true (sym (and-false (leb c.args.kind 6)))
+returns-then-not-fits_room c = rw (sym c.fits_room.ensures ∙ c.if-not-fits_room.true) (sym (and-false (leb c.args.kind 6)))
 
 pub returns : goal.returns
 unfolding good_by
 returns c =
     let kind = c.args.kind in
-    rw (c.judge_by-found.ensures, le-leb kind 6 (omega arith), sym c.fits_room.ensures ∙ c.if-not-fits_room.false
+    rw (c.judge_by-found.ensures, le-leb kind 6 (omega arith), sym c.fits_room.ensures ∙ c.if-not-fits_room.false)

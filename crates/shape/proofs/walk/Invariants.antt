@@ -17,7 +17,7 @@ invariant-loop-i l =
     × (l.i-end ≡ length l.roles)
     × (l.phase < 256)
     × (l.sum ≤ l.initial.sum + 4294967296 * l.i)
-    × (walked_all l.next l.weight (record { l.phase = l.phase; l.sum = l.sum }) (drop l.i l.roles) ≡ walked_all l.next l.weight (record { l.phase = l.initial.phase; l.sum = l.initial.sum }) l.roles)
+    × (walked_all l.next l.weight (record { phase = l.phase; sum = l.sum }) (drop l.i l.roles) ≡ walked_all l.next l.weight (record { phase = l.initial.phase; sum = l.initial.sum }) l.roles)
 
 abbrev pub decreases-loop-i : goal.decreases-loop-i
 decreases-loop-i l = length l.roles - l.i

@@ -40,7 +40,7 @@ pub loop-i-preserved : goal.loop-i-preserved
 loop-i-preserved c =
     let quiet : ((is_plain c.loop-i.mode && is_mark (drop c.loop-i.i c.args.text.now)) ≡ false) =
     let s = drop c.loop-i.i c.args.text.now in
-    elim c.if-is_plain.branch [ then-is_plain+else-mark_at w ↦ not_mark _ c.loop-i.mode s w.mark_at.ensures w.if-mark_at.false | else-is_plain w ↦ not_plain _ c.loop-i.mode s c.is_plain.ensures w.left ] in (
+    elim c.if-is_plain.branch [ then-is_plain+else-mark_at w ↦ not_mark _ c.loop-i.mode s w.mark_at.ensures w.if-mark_at.false | else-is_plain w ↦ not_plain _ c.loop-i.mode s c.is_plain.ensures w.if-is_plain.false ] in (
       search rules,
       rw (c.step-mode.ensures, c.put-picture.ensures)
           (head_more c.args.text.now c.loop-i.mode c.loop-i.picture c.loop-i.i (search rules) c.loop-i.invariant.1 _ c.count_of.ensures.0 c.count_of.ensures.1 quiet),

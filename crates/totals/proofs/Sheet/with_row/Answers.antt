@@ -34,9 +34,9 @@ loop-i-preserved c =
     let x : SFits w64 (get_or c.loop-i.self.sums i (pos 0)) = search rules in
     let y : SFits w64 (get_or c.loop-i.self.least i (pos 0)) = search rules in
     let z : SFits w64 (get_or c.loop-i.self.greatest i (pos 0)) = search rules in
-    let px : SFits w64 p.result = record { sfits = p.type-inv } in
-    let qx : SFits w64 q.result = record { sfits = q.type-inv } in
-    let rx : SFits w64 r.result = record { sfits = r.type-inv } in
+    let px : SFits w64 p.result = record { sfits = p.type_inv } in
+    let qx : SFits w64 q.result = record { sfits = q.type_inv } in
+    let rx : SFits w64 r.result = record { sfits = r.type_inv } in
     let nr : length c.args.row ≡ 32 = search rules in
     let ns : length c.args.self.sums ≡ 32 = search rules in
     let nl : length c.args.self.least ≡ 32 = search rules in

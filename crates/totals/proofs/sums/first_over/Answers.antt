@@ -17,7 +17,7 @@ returns-then-not-fits c =
     let f : SFits w64 (get_or c.args.sums c.loop-i.i (pos 0)) = search rules in
     let g : SFits w64 (get_or c.args.row c.loop-i.i (pos 0)) = search rules in
     over_here c.args.sums c.args.row _ (search rules) (search rules) _ c.loop-i-test.true c.loop-i.invariant.1
-    (sym (rw (to_z-of_z f, to_z-of_z g) at c.fits2.ensures) ∙ c.if-not-fits.true
+    (sym (rw (to_z-of_z f, to_z-of_z g) at c.fits.ensures) ∙ c.if-not-fits.true)
 
 pub loop-i-preserved : goal.loop-i-preserved
 loop-i-preserved c =
@@ -25,7 +25,7 @@ loop-i-preserved c =
     let g : SFits w64 (get_or c.args.row c.loop-i.i (pos 0)) = search rules in (
       search rules,
       fits_here c.args.sums c.args.row _ (search rules) (search rules) _ c.loop-i-test.true c.loop-i.invariant.1
-          (sym (rw (to_z-of_z f, to_z-of_z g) at c.fits2.ensures) ∙ c.if-not-fits.false,
+          (sym (rw (to_z-of_z f, to_z-of_z g) at c.fits.ensures) ∙ c.if-not-fits.false),
     )
 
 pub returns : goal.returns
