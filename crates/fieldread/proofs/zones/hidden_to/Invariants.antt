@@ -1,0 +1,16 @@
+-- `hidden_to`: as long as positions show what hidden ones do printing hasn't started. Assumes nothing.
+use borrow.Author.Rules.{rules}
+use mathlib.Core.Path.{◌≡◌, sym, ◌∙◌}
+use Prim.Native.Nat.{◌-◌, ◌≤◌, ◌<◌, min}
+use native.Mathlib.Omega.{arith}
+use lib.ListN.{length}
+use Rattle.rules.specs.Form.{formed}
+use Rattle.fieldread.specs.Zones.{HiddenTo}
+use Rattle.fieldread.proofs.Passing.{hidden_first, hidden_on, start_least, start_nine}
+use Rattle.fieldread.proofs.zones.hidden_to.Given as goal
+
+abbrev pub invariant-loop-k : goal.invariant-loop-k
+invariant-loop-k l = (l.k ≤ l.end) × (l.end ≡ min l.vee (length l.roles)) × HiddenTo (formed l.roles l.vee l.kind) l.field l.k
+
+abbrev pub decreases-loop-k : goal.decreases-loop-k
+decreases-loop-k l = l.end - l.k

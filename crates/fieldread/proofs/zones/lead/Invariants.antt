@@ -1,0 +1,19 @@
+-- `lead`: neither the opening nor the start has been passed, and what has been passed prints. Assumes nothing.
+use borrow.Author.Rules.{rules}
+use mathlib.Core.Path.{◌≡◌}
+use mathlib.Core.Bool.{false, ◌||◌}
+use Prim.Native.Nat.{◌-◌, ◌≤◌, ◌<◌, min}
+use native.Mathlib.Omega.{arith}
+use lib.ListN.{length}
+use Rattle.rules.specs.Roles.{is_nine, opens}
+use Rattle.rules.specs.Form.{formed, role_at}
+use Rattle.rules.specs.Edit.{opening}
+use Rattle.fieldread.specs.Zones.{said_at, start_in}
+use Rattle.fieldread.proofs.Passing.{lead_early, lead_here, lead_on, lead_out, lead_stop, no_digit, said_first, said_mark, start_least}
+use Rattle.fieldread.proofs.zones.lead.Given as goal
+
+abbrev pub invariant-loop-k : goal.invariant-loop-k
+invariant-loop-k l = (l.k ≤ l.end) × (l.end ≡ min l.vee (length l.roles)) × (l.s ≡ said_at (formed l.roles l.vee l.kind) l.field l.k) × (l.k ≤ start_in (formed l.roles l.vee l.kind) l.field) × (l.k ≤ opening (formed l.roles l.vee l.kind))
+
+abbrev pub decreases-loop-k : goal.decreases-loop-k
+decreases-loop-k l = l.end - l.k

@@ -1,0 +1,8 @@
+-- `print_mark` is the definition. Assumes nothing.
+use borrow.Author.Rules.{rules}
+use Rattle.fieldread.specs.Zones.{mark_step}
+use Rattle.fieldread.proofs.zones.print_mark.Goals as goal
+
+pub returns : goal.returns
+unfolding mark_step
+returns c = rw (c.mark_of.ensures, c.mark_of-2.ensures)
