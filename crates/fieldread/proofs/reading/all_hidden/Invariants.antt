@@ -10,6 +10,9 @@ use Rattle.rules.specs.Edit.{suppressed}
 use Rattle.field.proofs.Loops.{agree, agreed, differ}
 use Rattle.fieldread.proofs.reading.all_hidden.Given as goal
 
+abbrev shows : List ℕ → ℕ → ℕ → ℕ
+shows roles kind k = suppressed kind (get_or roles k 0)
+
 abbrev pub invariant-loop-k : goal.invariant-loop-k
 invariant-loop-k l = (l.k ≤ l.k-end) × (l.k-end ≡ length l.roles) × (same (drop l.k (up_to (length l.roles) (shows l.roles l.kind))) (drop l.k l.field) ≡ same (up_to (length l.roles) (shows l.roles l.kind)) l.field)
 
