@@ -1,0 +1,19 @@
+-- `planread::batch::add` meets its contract: bytes that are no plan are refused, and by a plan the outcome is that of its forms. Assumes nothing.
+use mathlib.Core.Path.{sym, ◌∙◌}
+use mathlib.Core.Bool.{true≢false}
+use borrow.Author.Rules.{rules}
+use borrow.Author.Tests.{not-true, not-false}
+use Rattle.rules.proofs.Outcomes.{by_plan_lem}
+use Rattle.planread.proofs.Additions.{placed_is}
+use Rattle.planread.proofs.batch.add.Goals as goal
+
+pub returns-then-not-is_plan : goal.returns-then-not-is_plan
+returns-then-not-is_plan c =
+    let n = sym c.is_plan.ensures ∙ c.if-not-is_plan.true in
+    by_plan_lem _ _ _ (λ _. c.unchanged.ensures) (λ h. absurd (true≢false (sym h ∙ n)))
+
+pub added_at-requires : goal.added_at-requires
+added_at-requires c = sym c.is_plan.ensures ∙ c.if-not-is_plan.false
+
+pub returns : goal.returns
+returns c = placed_is _ (sym c.is_plan.ensures ∙ c.if-not-is_plan.false) _ _ _ _ c.added_at.ensures
