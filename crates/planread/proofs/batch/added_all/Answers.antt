@@ -27,7 +27,7 @@ overflow_add-place c =
     let found : ((next_at c.args.size (length c.args.batch.now) c.loop-kept.place ≡ Record c.loop-kept.place (c.loop-kept.place + c.args.size))
     × (c.loop-kept.place + c.args.size ≤ length c.args.batch.now)) =
     let g = sym c.goes_on.ensures ∙ c.if-not-goes_on.false in
-    rw c.requires.1 (on_record c.args.plan.now c.args.batch.now c.loop-kept.place c.loop-kept.auto (rw c.added_at-done.ensures at g)) in
+    rw c.requires.1 (on_record c.args.plan.now c.args.batch.now c.loop-kept.place c.loop-kept.kept (rw c.added_at-done.ensures at g)) in
     let f = found.1 in search rules
 
 pub loop-kept-smaller : goal.loop-kept-smaller
@@ -35,7 +35,7 @@ loop-kept-smaller c =
     let found : ((next_at c.args.size (length c.args.batch.now) c.loop-kept.place ≡ Record c.loop-kept.place (c.loop-kept.place + c.args.size))
     × (c.loop-kept.place + c.args.size ≤ length c.args.batch.now)) =
     let g = sym c.goes_on.ensures ∙ c.if-not-goes_on.false in
-    rw c.requires.1 (on_record c.args.plan.now c.args.batch.now c.loop-kept.place c.loop-kept.auto (rw c.added_at-done.ensures at g)) in
+    rw c.requires.1 (on_record c.args.plan.now c.args.batch.now c.loop-kept.place c.loop-kept.kept (rw c.added_at-done.ensures at g)) in
     nearer (length c.args.batch.now) c.loop-kept.place (c.loop-kept.place + c.args.size) (omega (arith, c.requires.2)) found.1
 
 pub loop-kept-preserved : goal.loop-kept-preserved
@@ -43,7 +43,7 @@ loop-kept-preserved c =
     let found : ((next_at c.args.size (length c.args.batch.now) c.loop-kept.place ≡ Record c.loop-kept.place (c.loop-kept.place + c.args.size))
     × (c.loop-kept.place + c.args.size ≤ length c.args.batch.now)) =
     let g = sym c.goes_on.ensures ∙ c.if-not-goes_on.false in
-    rw c.requires.1 (on_record c.args.plan.now c.args.batch.now c.loop-kept.place c.loop-kept.auto (rw c.added_at-done.ensures at g)) in
+    rw c.requires.1 (on_record c.args.plan.now c.args.batch.now c.loop-kept.place c.loop-kept.kept (rw c.added_at-done.ensures at g)) in
     let f = found in
     let g = sym c.goes_on.ensures ∙ c.if-not-goes_on.false in
     let n = next_is c.args.plan.now c.requires.0 c.args.batch.now c.loop-kept.place c.args.size _ c.requires.1 (sym f.0) in
