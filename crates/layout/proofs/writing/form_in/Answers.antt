@@ -3,13 +3,9 @@ use mathlib.Core.Path.{◌∙◌, ap}
 use borrow.Author.Rules.{rules}
 use Rattle.form.specs.Rooms.{meaning_of}
 use Rattle.picture.proofs.Judging.{verdict_number, meaning_is}
-use Rattle.layout.proofs.writing.form_in.Statement.{statement}
-use Rattle.layout.proofs.writing.form_in.Tie as tie
+use Rattle.layout.proofs.writing.form_in.Goals as goal
 
-returns : tie.Need-returns
+pub returns : goal.returns
 returns c =
-    let a = c.before.before.judge.ensures in
+    let a = c.judge-judged.ensures in
     c.form_of.ensures ∙ ap meaning_of (meaning_is _ _ a (verdict_number _ _ a ∙ search rules))
-
-pub form-in-spec : {M : Type 1} → statement M
-form-in-spec = tie.close (tie.spec (λ c κs. search rules) (λ c κs. search rules) returns)
