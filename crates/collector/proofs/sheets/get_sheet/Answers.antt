@@ -1,0 +1,15 @@
+-- `collector::sheets::get_sheet` meets its contract. Assumes nothing.
+use native.Mathlib.Omega.{arith}
+use borrow.Author.Rules.{rules}
+use mir.Syntax.{w64}
+use mir.Val.{SFits}
+use mir.Facts.{to_z-of_z}
+use Rattle.wire.proofs.Run.{get_in}
+use Rattle.collector.specs.TotalRuns.{sheet_in}
+use Rattle.collector.proofs.sheets.get_sheet.Goals as goal
+
+pub returns : goal.returns
+unfolding sheet_in
+returns c =
+    let f : SFits w64 c.get.result = record { sfits = c.get.type_inv } in
+    rw (c.counted_of-count.ensures, to_z-of_z f, c.get.ensures, get_in c.args.run.now 0 (omega (arith, c.requires)), c.get_column-sums.ensures, c.get_column-least.ensures, c.get_column-greatest.ensures)
