@@ -10,56 +10,56 @@ pub returns-then-answer-ne0 : goal.returns-then-answer-ne0
 returns-then-answer-ne0 c =
     let s = c.compile-answer in
     let g = c.put_line-line.ensures in
-    let w = listed _ _ _ _ _ _ _ s.ensures.0 (λ e. absurd (c.if-answer-ne0.true e)) g.answer g.memory in
-    record { answer = w.0; plan = s.ensures.1; memory = w.1; within = (plan_inside _ _ _ _ s.ensures.0 s.ensures.1, g.within) }
+    let w = listed _ _ _ _ _ _ _ s.ensures.answer (λ e. absurd (c.if-answer-ne0.true e)) g.answer g.memory in
+    record { answer = w.0; plan = s.ensures.memory; memory = w.1; within = (plan_inside _ _ _ _ s.ensures.answer s.ensures.memory, g.within) }
 
 pub bounds-plan-0 : goal.bounds-plan-0
 bounds-plan-0 c =
-    let done : (Compiled c.args.layout.now c.compile-answer.result c.compile-answer.new.plan.0) =
-    let s = c.compile-answer in compiled _ _ _ _ s.ensures.0 s.ensures.1 c.if-answer-ne0.false in
+    let done : (Compiled c.args.layout.now c.compile-answer.result c.compile-answer.new.plan) =
+    let s = c.compile-answer in compiled _ _ _ _ s.ensures.answer s.ensures.memory c.if-answer-ne0.false in
     done.some
 
 pub overflow_cast-fields : goal.overflow_cast-fields
 overflow_cast-fields c =
-    let done : (Compiled c.args.layout.now c.compile-answer.result c.compile-answer.new.plan.0) =
-    let s = c.compile-answer in compiled _ _ _ _ s.ensures.0 s.ensures.1 c.if-answer-ne0.false in
+    let done : (Compiled c.args.layout.now c.compile-answer.result c.compile-answer.new.plan) =
+    let s = c.compile-answer in compiled _ _ _ _ s.ensures.answer s.ensures.memory c.if-answer-ne0.false in
     let d = done in record { fits = omega arith }
 
 pub overflow_cast-counts : goal.overflow_cast-counts
 overflow_cast-counts c =
-    let done : (Compiled c.args.layout.now c.compile-answer.result c.compile-answer.new.plan.0) =
-    let s = c.compile-answer in compiled _ _ _ _ s.ensures.0 s.ensures.1 c.if-answer-ne0.false in
+    let done : (Compiled c.args.layout.now c.compile-answer.result c.compile-answer.new.plan) =
+    let s = c.compile-answer in compiled _ _ _ _ s.ensures.answer s.ensures.memory c.if-answer-ne0.false in
     let d = done in record { sfits = omega arith }
 
 pub overflow_sub-counts : goal.overflow_sub-counts
 overflow_sub-counts c =
-    let done : (Compiled c.args.layout.now c.compile-answer.result c.compile-answer.new.plan.0) =
-    let s = c.compile-answer in compiled _ _ _ _ s.ensures.0 s.ensures.1 c.if-answer-ne0.false in
+    let done : (Compiled c.args.layout.now c.compile-answer.result c.compile-answer.new.plan) =
+    let s = c.compile-answer in compiled _ _ _ _ s.ensures.answer s.ensures.memory c.if-answer-ne0.false in
     let d = done in omega arith
 
 pub overflow_mul-counts : goal.overflow_mul-counts
 overflow_mul-counts c =
-    let done : (Compiled c.args.layout.now c.compile-answer.result c.compile-answer.new.plan.0) =
-    let s = c.compile-answer in compiled _ _ _ _ s.ensures.0 s.ensures.1 c.if-answer-ne0.false in
+    let done : (Compiled c.args.layout.now c.compile-answer.result c.compile-answer.new.plan) =
+    let s = c.compile-answer in compiled _ _ _ _ s.ensures.answer s.ensures.memory c.if-answer-ne0.false in
     let d = done in record { fits = omega arith }
 
 pub overflow_sub-counts-2 : goal.overflow_sub-counts-2
 overflow_sub-counts-2 c =
-    let done : (Compiled c.args.layout.now c.compile-answer.result c.compile-answer.new.plan.0) =
-    let s = c.compile-answer in compiled _ _ _ _ s.ensures.0 s.ensures.1 c.if-answer-ne0.false in
+    let done : (Compiled c.args.layout.now c.compile-answer.result c.compile-answer.new.plan) =
+    let s = c.compile-answer in compiled _ _ _ _ s.ensures.answer s.ensures.memory c.if-answer-ne0.false in
     let d = done in omega arith
 
 pub overflow_cast-counts-2 : goal.overflow_cast-counts-2
 overflow_cast-counts-2 c =
-    let done : (Compiled c.args.layout.now c.compile-answer.result c.compile-answer.new.plan.0) =
-    let s = c.compile-answer in compiled _ _ _ _ s.ensures.0 s.ensures.1 c.if-answer-ne0.false in
+    let done : (Compiled c.args.layout.now c.compile-answer.result c.compile-answer.new.plan) =
+    let s = c.compile-answer in compiled _ _ _ _ s.ensures.answer s.ensures.memory c.if-answer-ne0.false in
     let d = done in record { sfits = omega arith }
 
 pub returns : goal.returns
 returns c =
-    let done : (Compiled c.args.layout.now c.compile-answer.result c.compile-answer.new.plan.0) =
-    let s = c.compile-answer in compiled _ _ _ _ s.ensures.0 s.ensures.1 c.if-answer-ne0.false in
+    let done : (Compiled c.args.layout.now c.compile-answer.result c.compile-answer.new.plan) =
+    let s = c.compile-answer in compiled _ _ _ _ s.ensures.answer s.ensures.memory c.if-answer-ne0.false in
     let s = c.compile-answer in
     let g = c.put_line-line-2.ensures in
-    let w = listed _ _ _ _ _ _ _ s.ensures.0 (λ e. counts_text _ _ _ done) g.answer g.memory in
-    record { answer = w.0; plan = s.ensures.1; memory = w.1; within = (plan_inside _ _ _ _ s.ensures.0 s.ensures.1, g.within) }
+    let w = listed _ _ _ _ _ _ _ s.ensures.answer (λ e. counts_text _ _ _ done) g.answer g.memory in
+    record { answer = w.0; plan = s.ensures.memory; memory = w.1; within = (plan_inside _ _ _ _ s.ensures.answer s.ensures.memory, g.within) }

@@ -6,4 +6,6 @@ use Rattle.listing.proofs.Texts.{over_text}
 use Rattle.listing.proofs.over_line.Goals as goal
 
 pub returns : goal.returns
-returns c = record { answer = rw (← over_text []) (((c.put_line.ensures.answer, c.put_line.ensures.memory, c.put_line.ensures.within)).0); memory = rw (← over_text []) (((c.put_line.ensures.answer, c.put_line.ensures.memory, c.put_line.ensures.within)).1.0); within = rw (← over_text []) (((c.put_line.ensures.answer, c.put_line.ensures.memory, c.put_line.ensures.within)).1.1) }
+returns c =
+    let w = c.put_line.ensures in
+    record { answer = rw (← over_text []) w.answer; memory = rw (← over_text []) w.memory; within = w.within }

@@ -9,7 +9,7 @@ use Rattle.listing.proofs.record_line.Goals as goal
 pub put_line-requires : goal.put_line-requires
 put_line-requires c =
     let n = record_few _ _ _ _ _ c.read-answer.ensures in
-    let l : length c.read-answer.new.record.1.0 ≡ 32 = search rules in
+    let l : length c.read-answer.new.row ≡ 32 = search rules in
     (omega arith, n)
 
 pub returns : goal.returns

@@ -5,7 +5,10 @@ use Rattle.listing.proofs.TotalTexts.{entered_none, entered_some}
 use Rattle.listing.proofs.total.added_line.Goals as goal
 
 pub returns-then-answer-eq0 : goal.returns-then-answer-eq0
-returns-then-answer-eq0 c = record { line = (entered_none _ _ _ _ _ _ c.add_record-added.ensures c.if-answer-eq0.true).0; within = (entered_none _ _ _ _ _ _ c.add_record-added.ensures c.if-answer-eq0.true).1 }
+returns-then-answer-eq0 c =
+    let a = c.args in
+    let w = entered_none a.k a.plan.now a.«record».now a.sheet a.out.now c.add_record-added.result c.add_record-added.ensures c.if-answer-eq0.true in
+    record { line = w.0; within = w.1 }
 
 pub returns : goal.returns
 returns c =

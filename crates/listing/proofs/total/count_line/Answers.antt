@@ -5,4 +5,6 @@ use Rattle.listing.proofs.total.count_line.Goals as goal
 
 pub returns : goal.returns
 unfolding count_text
-returns c = record { answer = ((c.put_row.ensures.answer, c.put_row.ensures.memory, c.put_row.ensures.within)).0; memory = ((c.put_row.ensures.answer, c.put_row.ensures.memory, c.put_row.ensures.within)).1.0; within = ((c.put_row.ensures.answer, c.put_row.ensures.memory, c.put_row.ensures.within)).1.1 }
+returns c =
+    let w = c.put_row.ensures in
+    record { answer = w.answer; memory = w.memory; within = w.within }

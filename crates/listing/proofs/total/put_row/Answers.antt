@@ -1,5 +1,7 @@
 -- `listing::total::put_row` meets its contract: the parts of the line, each behind the one before, have room in the lent memory. Assumes
 -- nothing.
+use Rattle.listing.specs.TotalLines.{row_text}
+use Rattle.std.proofs.Common.{◌≤◌, length, take}
 use Prim.Native.Nat.{◌+◌, ◌*◌}
 use native.Mathlib.Omega.{arith}
 use lib.Seq.{length-take-le}
@@ -11,7 +13,9 @@ use Rattle.listing.proofs.TotalTexts.{row_in}
 use Rattle.listing.proofs.total.put_row.Goals as goal
 
 pub returns-then-out-lt-LINE : goal.returns-then-out-lt-LINE
-returns-then-out-lt-LINE c = record { answer = (line_out _ _ c.if-out-lt-LINE.true).0; memory = (line_out _ _ c.if-out-lt-LINE.true).1.0; within = (line_out _ _ c.if-out-lt-LINE.true).1.1 }
+returns-then-out-lt-LINE c =
+    let w = line_out (row_text c.args.n (take c.args.count c.args.row.now)) c.args.out.now c.if-out-lt-LINE.true in
+    record { answer = w.0; memory = w.1.0; within = w.1.1 }
 
 pub put_values-end-requires : goal.put_values-end-requires
 put_values-end-requires c =
@@ -24,4 +28,6 @@ put_end-requires c =
 
 pub returns : goal.returns
 returns c =
-    record { answer = (row_in _ _ (omega arith) (rw (length-take-le _ _ c.requires.0) c.requires.1) c.put_decimal-head.ensures c.put_values-end.ensures c.put_end.ensures).0; memory = (row_in _ _ (omega arith) (rw (length-take-le _ _ c.requires.0) c.requires.1) c.put_decimal-head.ensures c.put_values-end.ensures c.put_end.ensures).1.0; within = (row_in _ _ (omega arith) (rw (length-take-le _ _ c.requires.0) c.requires.1) c.put_decimal-head.ensures c.put_values-end.ensures c.put_end.ensures).1.1 }
+    let few : length (take c.args.count c.args.row.now) ≤ 32 = rw (length-take-le _ _ c.requires.0) c.requires.1 in
+    let w = row_in c.args.n (take c.args.count c.args.row.now) (omega arith) few c.put_decimal-head.ensures c.put_values-end.ensures c.put_end.ensures in
+    record { answer = w.0; memory = w.1.0; within = w.1.1 }

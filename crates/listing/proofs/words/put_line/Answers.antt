@@ -1,5 +1,7 @@
 -- `listing::words::put_line` meets its contract: the parts of the line, each behind the one before, have room in the lent memory. Assumes
 -- nothing.
+use Rattle.listing.specs.Lines.{text_of}
+use Rattle.std.proofs.Common.{◌≤◌, length, take}
 use Prim.Native.Nat.{◌+◌, ◌*◌}
 use native.Mathlib.Omega.{arith}
 use lib.Seq.{length-take-le}
@@ -9,14 +11,17 @@ use Rattle.listing.proofs.Texts.{head_le, values_few, line_out, line_refused, li
 use Rattle.listing.proofs.words.put_line.Goals as goal
 
 pub returns-then-out-lt-LINE : goal.returns-then-out-lt-LINE
-returns-then-out-lt-LINE c = record { answer = (line_out _ _ c.if-out-lt-LINE.true).0; memory = (line_out _ _ c.if-out-lt-LINE.true).1.0; within = (line_out _ _ c.if-out-lt-LINE.true).1.1 }
+returns-then-out-lt-LINE c =
+    let w = line_out (text_of c.args.k c.args.number c.args.field (take c.args.count c.args.row.now)) c.args.out.now c.if-out-lt-LINE.true in
+    record { answer = w.0; memory = w.1.0; within = w.1.1 }
 
 pub put_end-requires : goal.put_end-requires
 put_end-requires c = put_room 62 1 c.put_answer-head.ensures (head_le _ _ _) (omega arith)
 
 pub returns-then-number-ne0 : goal.returns-then-number-ne0
 returns-then-number-ne0 c =
-    record { answer = (line_refused _ _ _ _ (omega arith) c.put_answer-head.ensures c.if-number-ne0.true c.put_end.ensures).0; memory = (line_refused _ _ _ _ (omega arith) c.put_answer-head.ensures c.if-number-ne0.true c.put_end.ensures).1.0; within = (line_refused _ _ _ _ (omega arith) c.put_answer-head.ensures c.if-number-ne0.true c.put_end.ensures).1.1 }
+    let w = line_refused c.args.k c.args.number c.args.field (take c.args.count c.args.row.now) (omega arith) c.put_answer-head.ensures c.if-number-ne0.true c.put_end.ensures in
+    record { answer = w.0; memory = w.1.0; within = w.1.1 }
 
 pub put_values-end-requires : goal.put_values-end-requires
 put_values-end-requires c =
@@ -29,4 +34,6 @@ put_end-requires-2 c =
 
 pub returns : goal.returns
 returns c =
-    record { answer = (line_taken _ _ _ _ (omega arith) c.put_answer-head.ensures (rw (length-take-le _ _ c.requires.0) c.requires.1) c.if-number-ne0.false c.put_values-end.ensures c.put_end-2.ensures).0; memory = (line_taken _ _ _ _ (omega arith) c.put_answer-head.ensures (rw (length-take-le _ _ c.requires.0) c.requires.1) c.if-number-ne0.false c.put_values-end.ensures c.put_end-2.ensures).1.0; within = (line_taken _ _ _ _ (omega arith) c.put_answer-head.ensures (rw (length-take-le _ _ c.requires.0) c.requires.1) c.if-number-ne0.false c.put_values-end.ensures c.put_end-2.ensures).1.1 }
+    let few : length (take c.args.count c.args.row.now) ≤ 32 = rw (length-take-le _ _ c.requires.0) c.requires.1 in
+    let w = line_taken c.args.k c.args.number c.args.field (take c.args.count c.args.row.now) (omega arith) c.put_answer-head.ensures few c.if-number-ne0.false c.put_values-end.ensures c.put_end-2.ensures in
+    record { answer = w.0; memory = w.1.0; within = w.1.1 }
