@@ -22,6 +22,8 @@ DECLARED = re.compile(
 )
 USE = re.compile(r"(?m)^[ \t]*(?:pub[ \t]+)?use[ \t]+(\S+?)\.\{([^}]*)\}")
 KEYWORDS = {"let", "in", "where", "elim", "use", "module", "record", "data", "pub", "mod", "_"}
+# No lemma, but the constructor beside as_layout.
+APART = {"no-plan": "as_no_plan"}
 PAGES = ["README.md", "docs", "docs/changes"]
 
 
@@ -74,7 +76,7 @@ def table():
     for new, olds in together.items():
         for old in olds:
             lemma = "-" in old or (old == new and any("-" not in o and o != old for o in olds))
-            target = new + "_lem" if len(olds) > 1 and lemma else new
+            target = APART.get(old, new + "_lem") if len(olds) > 1 and lemma else new
             if target != old:
                 out[old] = target
     return out

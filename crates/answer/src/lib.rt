@@ -1,4 +1,6 @@
 // The two answers of a call, made in one place: a refusal and a success.
+#![tactic(auto)]
+
 ghost use Rattle.std.specs.Prelude.{◌≡◌, pos};
 
 use rules::Answer;

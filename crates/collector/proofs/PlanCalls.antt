@@ -1,5 +1,5 @@
 -- The calls on plans with rows as runs: a row of 32 numbers holds what any run would, since no layout has more fields. Assumes nothing.
-use Prim.Native.Nat.{ℕ, zero, suc, ◌+◌, ◌*◌, ◌/◌, ◌%◌, ◌≤◌, min}
+use Prim.Native.Nat.{ℕ, zero, suc, ◌*◌, ◌/◌, ◌%◌, ◌≤◌, min}
 use mathlib.Core.Path.{◌≡◌, refl, sym, ap, ◌∙◌}
 use mathlib.Core.Bool.{Bool, true, false, cond}
 use mathlib.Core.List.{List, [], ◌∷◌, ◌++◌}
@@ -14,7 +14,7 @@ use Rattle.rules.specs.declared.Answer.{Answer}
 use Rattle.rules.specs.Numbers.{ROOM, LENGTH, COUNT, when, unless, first_of, bad_field}
 use Rattle.rules.specs.Form.{Form}
 use Rattle.rules.specs.Layout.{count_fits, verdicts, accepted, forms, record_length, plan_of, HasPlan}
-use Rattle.rules.specs.Answers.{answer, compile_answer, lent_after, said, unsaid, amounts, number_over, answer_over, read_before, record_answer, row_after, RecordIs, no_plan_lem, as_layout, PlanReadIs, edit_verdicts, record_of, row_number, row_answer, RowIs, PlanEditIs}
+use Rattle.rules.specs.Answers.{answer, compile_answer, lent_after, said, unsaid, amounts, number_over, answer_over, read_before, record_answer, row_after, RecordIs, as_no_plan, as_layout, PlanReadIs, edit_verdicts, record_of, row_number, row_answer, RowIs, PlanEditIs}
 use Rattle.rules.specs.Collector.{packed, row_bytes, row_in}
 use Rattle.rules.proofs.Logic.{by_test}
 use Rattle.rules.proofs.Firsts.{lent_kept, first_zero}
@@ -105,18 +105,18 @@ module _ (b rec run : List ℕ) (row : List ℤ) (size : length row ≡ min (pla
   few l p = (forms_count l p.layout).1
 
   pub plan_refused : PlanReadIs b rec row a after → (a.number ≡ 0 → ⊥) → (r : ℕ) → r ≡ packed a → PlanReadRunIs b rec run r run
-  plan_refused (no_plan_lem n p) z r e = no_plan_lem n (e ∙ ap packed p.0, refl)
+  plan_refused (as_no_plan n p) z r e = as_no_plan n (e ∙ ap packed p.0, refl)
   plan_refused (as_layout l p h) z r e = as_layout l p (rw e (run_refused (forms l) rec run (few l p) row size a after h z))
 
   pub plan_done : PlanReadIs b rec row a after → a.number ≡ 0 → (r : ℕ) → r ≡ packed a → (left : List ℕ) (c : ℕ) → c ≡ a.length → left ≡ put_row run (take c after) → PlanReadRunIs b rec run r left
-  plan_done (no_plan_lem n p) z r e left c s q = let x : ◌≡◌ {A = ℕ} 12 0 = sym (ap (λ (y : Answer). y.number) p.0) ∙ z in absurd (omega arith)
+  plan_done (as_no_plan n p) z r e left c s q = let x : ◌≡◌ {A = ℕ} 12 0 = sym (ap (λ (y : Answer). y.number) p.0) ∙ z in absurd (omega arith)
   plan_done (as_layout l p h) z r e left c s q =
       as_layout l p (rw e (run_done (forms l) rec run (few l p) row size a after h z left
       (q ∙ ap (λ (n : ℕ). put_row run (take n after)) (s ∙ length_is (forms l) rec run (few l p) row size a after h z) ∙ ap (put_row run) (values_are (forms l) rec run (few l p) row size a after h z))))
 
   -- the fields read fit the row of 32
   pub done_length : PlanReadIs b rec row a after → a.number ≡ 0 → a.length ≤ length row
-  done_length (no_plan_lem n p) z = let x : ◌≡◌ {A = ℕ} 12 0 = sym (ap (λ (y : Answer). y.number) p.0) ∙ z in absurd (omega arith)
+  done_length (as_no_plan n p) z = let x : ◌≡◌ {A = ℕ} 12 0 = sym (ap (λ (y : Answer). y.number) p.0) ∙ z in absurd (omega arith)
   done_length (as_layout l p h) z =
       omega (arith, few l p, length_is (forms l) rec run (few l p) row size a after h z, room_is (forms l) rec run (few l p) row size a after h z)
 
@@ -174,7 +174,7 @@ module _ (φs : List Form) (run : List ℕ) (some : 1 ≤ length φs) (few : len
 
 pub plan_edited : (b run : List ℕ) (row : List ℤ) → row ≡ row_in (row_count (length run)) run → (out : List ℕ) (a : Answer) (after : List ℕ) → PlanEditIs b row out a after
     → (r : ℕ) → r ≡ packed a → PlanEditRunIs b run out r after
-plan_edited b run row e out a after (no_plan_lem n p) r q = no_plan_lem n (q ∙ ap packed p.0, p.1)
+plan_edited b run row e out a after (as_no_plan n p) r q = as_no_plan n (q ∙ ap packed p.0, p.1)
 plan_edited b run row e out a after (as_layout l p h) r q =
     let c = forms_count l p.layout in
     as_layout l p (rw q (row_run (forms l) run c.0 c.1 row e out a after h))
@@ -191,7 +191,7 @@ over_small before fields behind l h = small (number_over before fields behind) (
 
 pub read_small : (b rec : List ℕ) (row : List ℤ) (a : Answer) (after : List ℤ) → PlanReadIs b rec row a after → a.length ≤ 65536
 unfolding record_answer
-read_small b rec row a after (no_plan_lem n p) = rw p.0 (omega arith)
+read_small b rec row a after (as_no_plan n p) = rw p.0 (omega arith)
 read_small b rec row a after (as_layout l p h) =
     let c = forms_count l p.layout in
     let k : length (forms l) ≤ 65536 = omega arith in
@@ -199,7 +199,7 @@ read_small b rec row a after (as_layout l p h) =
 
 pub edit_small : (b : List ℕ) (row : List ℤ) (out : List ℕ) (a : Answer) (after : List ℕ) → PlanEditIs b row out a after → a.length ≤ 65536
 unfolding row_answer
-edit_small b row out a after (no_plan_lem n p) = rw p.0 (omega arith)
+edit_small b row out a after (as_no_plan n p) = rw p.0 (omega arith)
 edit_small b row out a after (as_layout l p h) =
     let c = forms_count l p.layout in
     let k : record_length (forms l) ≤ 65536 = omega (arith, record_le (forms l) (forms_good l p.layout)) in

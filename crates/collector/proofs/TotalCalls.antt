@@ -1,6 +1,6 @@
 -- Adding a record to a sheet in a run, at each way through the call. Only a record that was added has a length, for a plan has a field at least: so
 -- the length alone tells whether there is a sheet to write. Assumes nothing.
-use Prim.Native.Nat.{ℕ, zero, suc, ◌+◌, ◌<◌, ◌≤◌}
+use Prim.Native.Nat.{ℕ, zero, suc, ◌<◌, ◌≤◌}
 use mathlib.Core.Path.{◌≡◌, refl, sym, ap, ◌∙◌}
 use mathlib.Core.Bool.{true, false, true≢false}
 use mathlib.Core.List.{List, [], ◌++◌}
@@ -12,7 +12,7 @@ use lib.ListN.{length, drop}
 use Rattle.rules.specs.declared.Answer.{Answer}
 use Rattle.rules.specs.Form.{Form}
 use Rattle.rules.specs.Layout.{forms, most_pictures}
-use Rattle.rules.specs.Answers.{answer, answer_over, as_layout, lent_after, no_plan_lem, number_over}
+use Rattle.rules.specs.Answers.{answer, answer_over, as_layout, lent_after, as_no_plan, number_over}
 use Rattle.rules.specs.Collector.{packed}
 use Rattle.rules.specs.PlanBytes.{forms_in, is_plan}
 use Rattle.rules.specs.Candidate.{read_all}
@@ -124,16 +124,16 @@ module _ (b batch : List ℕ) (at : ℕ) (run : List ℕ) where
 
   module _ (r : Added) where
     pub length_few : AddIs b batch at (sheet_in run) r → r.answer.length ≤ 65536
-    length_few (no_plan_lem n p) = rw p (omega arith)
+    length_few (as_no_plan n p) = rw p (omega arith)
     length_few (as_layout l p a) = let c = forms_count l p.layout in places_le (forms l) c.0 c.1 batch at (sheet_in run) r a
 
     pub count_few : AddIs b batch at (sheet_in run) r → (r.answer.length ≡ 0 → ⊥) → r.sheet.count ≤ most_records
-    count_few (no_plan_lem n p) h = absurd (h (ap (λ (x : Added). x.answer.length) p))
+    count_few (as_no_plan n p) h = absurd (h (ap (λ (x : Added). x.answer.length) p))
     count_few (as_layout l p a) h = let c = forms_count l p.layout in grown_count (forms l) c.0 c.1 batch at (sheet_in run) r a h
 
     module _ (room : sheet_size ≤ length run) (n : ℕ) (e : n ≡ packed r.answer) where
       pub run_stays : AddIs b batch at (sheet_in run) r → r.answer.length ≡ 0 → TotalsAddRunIs b batch at run n run
-      run_stays (no_plan_lem m p) h = no_plan_lem m (e ∙ ap (λ (x : Added). packed x.answer) p, refl)
+      run_stays (as_no_plan m p) h = as_no_plan m (e ∙ ap (λ (x : Added). packed x.answer) p, refl)
       run_stays (as_layout l p a) h =
           let c = forms_count l p.layout in
           as_layout l p (record {
@@ -145,7 +145,7 @@ module _ (b batch : List ℕ) (at : ℕ) (run : List ℕ) where
 
       pub run_grows : AddIs b batch at (sheet_in run) r → (r.answer.length ≡ 0 → ⊥) → length r.sheet.sums ≡ most_pictures → length r.sheet.least ≡ most_pictures
           → length r.sheet.greatest ≡ most_pictures → (after : List ℕ) → after ≡ sheet_bytes r.sheet ++ drop sheet_size run → TotalsAddRunIs b batch at run n after
-      run_grows (no_plan_lem m p) h x y z after q = absurd (h (ap (λ (x : Added). x.answer.length) p))
+      run_grows (as_no_plan m p) h x y z after q = absurd (h (ap (λ (x : Added). x.answer.length) p))
       run_grows (as_layout l p a) h x y z after q =
           let c = forms_count l p.layout in
           as_layout l p (record {

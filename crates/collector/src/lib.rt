@@ -1,5 +1,7 @@
 // The calls of a C program, on plain numbers and byte runs: a run is a pointer and then its length. Each answers
 // number, field and length packed into one (RULES 7.2). include/morvenka.h declares them.
+#![tactic(auto)]
+
 mod sheets; // sheets.rt: the call on a totals sheet
 
 ghost use Rattle.std.specs.Prelude.{◌≡◌, ◌/◌, ◌≤◌, min, length};

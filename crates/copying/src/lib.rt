@@ -1,4 +1,6 @@
 // Bytes copied into lent bytes. The call takes every input: where the part does not fit, nothing is written.
+#![tactic(auto)]
+
 ghost use Rattle.std.specs.Prelude.{◌≡◌};
 ghost use Rattle.copying.specs.Copy.{copied};
 

@@ -18,7 +18,7 @@ use Rattle.rules.specs.Edit.{fill}
 use Rattle.rules.proofs.Logic.{both, by_test, lt_or_le, neither}
 use Rattle.rules.proofs.Search.{first_holds, first_none, last_found, last_holds, up_to_same}
 use Rattle.roles.specs.Table.{figure_by, mark_by}
-use Rattle.field.specs.Results.{is_hidden, left_at, nine_in, printed_at, printed_by, reach, shown_at, spot}
+use Rattle.field.specs.Results.{is_hidden, left_at, nine_in, printed_at, printed_by, shown_at, spot}
 use Rattle.field.specs.Steps.{Between, lead_to, step_of}
 use Rattle.field.specs.declared.step.Step.{Step}
 use Rattle.field.proofs.Bytes.{sets_less}

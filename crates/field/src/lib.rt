@@ -1,5 +1,7 @@
 // One field of one form: what a value's characters are. A form comes as its parts, the roles of
 // its positions, the number of positions before V, and the kind of suppression. Each call answers for every input.
+#![tactic(auto)]
+
 mod reach; // reach.rt: where positions can be hidden
 mod step; // step.rt: what one position prints, and what is left of the magnitude before it
 pub mod survey; // survey.rt: what the roles have, in one pass or less

@@ -1,5 +1,7 @@
 // One field of one form, read: the one value that has it, if any has. A form comes as its parts, the roles of its positions, the number
 // of positions before V, and the kind of suppression. The call answers for every input.
+#![tactic(auto)]
+
 mod reading; // reading.rt: the value, with the sign under which the field is that value's
 mod zones; // zones.rt: a field in one pass
 

@@ -1,4 +1,6 @@
 // From symbols to form: what a picture means. Each public function takes the picture by value.
+#![tactic(auto)]
+
 ghost use Rattle.std.specs.Prelude.{◌≡◌, ◌&&◌, ◌≤◌, ◌<◌, leb, length};
 ghost use Rattle.rules.specs.Words.{times, place};
 ghost use Rattle.rules.specs.Text.{the_v, most_symbols, held_in};

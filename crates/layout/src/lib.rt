@@ -1,5 +1,7 @@
 // A layout text compiled to a plan: its pictures are counted, judged and measured, then the bytes of their forms are written. The
 // lent memory is written once every refusal is settled.
+#![tactic(auto)]
+
 mod cutting; // cutting.rt: where a layout's pictures end, and whether their count is right
 mod measuring; // measuring.rt: the first bad picture, or what the plan needs
 mod writing; // writing.rt: the plan's bytes

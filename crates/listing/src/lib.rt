@@ -1,6 +1,8 @@
 // The lines of a listing, each written whole into the first bytes of the lent memory: a layout's, a record's, and that of an input over
 // the limit. Every call takes every input. Where the lent memory is shorter than a line may be, nothing is written there and length 0
 // is answered. That a length lies `within` the memory follows from the rest, and is said so that a caller can lend the line on.
+#![tactic(auto)]
+
 mod number; // number.rt: a number in decimal
 pub mod total; // total.rt: the lines of a total
 mod words; // words.rt: the words of a line

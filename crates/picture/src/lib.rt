@@ -1,5 +1,7 @@
 // One picture by its text: checked, edited and read. Each call takes every input, does its own checking, and answers with the
 // number, field, length and value of RULES 6.
+#![tactic(auto)]
+
 mod editing; // editing.rt: a value as the field of a picture
 mod reading; // reading.rt: the value that a picture's field says
 pub mod verdict; // verdict.rt: the refusals of a picture text, in their order

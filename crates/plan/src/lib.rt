@@ -1,4 +1,6 @@
 // Which bytes are a plan: the counts first, then each field's form by its part of the positions. Nothing is compiled again.
+#![tactic(auto)]
+
 ghost use Rattle.std.specs.Prelude.{◌≡◌, ◌&&◌, ◌+◌, ◌*◌, ◌<◌, ◌≤◌, length};
 ghost use Rattle.rules.specs.Layout.{most_pictures};
 ghost use Rattle.rules.specs.PlanBytes.{all_good, forms_in, is_plan};

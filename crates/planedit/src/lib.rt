@@ -1,5 +1,7 @@
 // A row edited by a plan into a record. Every refusal is settled before the first byte is written, so that a refusal changes
 // nothing: one pass settles each value against its field, another writes the fields straight into the lent bytes.
+#![tactic(auto)]
+
 mod fields; // fields.rt: one field of a plan, and the value that goes into it
 
 ghost use Rattle.std.specs.Prelude.{◌≡◌, true, ◌++◌, length, drop};

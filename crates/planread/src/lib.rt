@@ -1,5 +1,7 @@
 // A record read by a plan into a row: one value a field, or the first refusal in the order of RULES 6.6. The call takes every input and does its
 // own checking. The records of a batch are read here too, since what asks for a plan is offered to no other crate.
+#![tactic(auto)]
+
 pub mod batch; // batch.rt: the records of a batch, added to a totals sheet
 mod run; // run.rt: the fields of a record, one after the other
 

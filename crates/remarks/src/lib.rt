@@ -1,5 +1,7 @@
 // What is remarked beside a listing (RULES 8.8) and beside totals: how many lines of a listing say a refusal, and what stands at the ends of a line
 // that an editor or another machine has put there. Every call takes every input.
+#![tactic(auto)]
+
 ghost use Rattle.std.specs.Prelude.{◌≡◌, drop};
 ghost use Rattle.remarks.specs.Remarks.{not_zero, refusals, ends_in, is_marked};
 

@@ -1,5 +1,7 @@
 // What a role is, how many positions stand before V, and the characters that roles show. Every byte has an answer, so that no call has to ask
 // first whether it is a role.
+#![tactic(auto)]
+
 pub mod figures; // figures.rt: the characters of digits
 pub mod marks; // marks.rt: the other characters
 pub mod table; // table.rt: all characters that positions print, as a table to be lent

@@ -1,6 +1,6 @@
 -- A form is that of an accepted text exactly when it is good: a good form written back as a text is accepted and means that form again, and
 -- the form of an accepted text is good. Assumes nothing.
-use Prim.Native.Nat.{ℕ, ◌+◌, ◌-◌, ◌≤◌}
+use Prim.Native.Nat.{ℕ, ◌+◌, ◌≤◌}
 use mathlib.Core.Path.{◌≡◌, refl, sym, ap, ◌∙◌}
 use mathlib.Core.Bool.{true, false, cond, true≢false}
 use mathlib.Core.List.{List, map}
@@ -13,10 +13,8 @@ use Rattle.rules.specs.Words.{any, count, one, place, times}
 use Rattle.rules.specs.Numbers.{first_of}
 use Rattle.rules.specs.Text.{expand, is_some, most_symbols, most_text, or_none, symbols_of, text_fits, the_v}
 use Rattle.rules.specs.Roles.{drifts_sign, is_digit, is_sign, is_suppressible, last_kind}
-use Rattle.rules.specs.Form.{Form, form_of, kind_of, meaning, numbers, roles_from, size, suppresses}
+use Rattle.rules.specs.Form.{Form, form_of, kind_of, meaning, numbers, roles_from, suppresses}
 use Rattle.rules.specs.Shape.{digit_count, digits_fit, drifting, drifts_before_v, form_shape, most_digits, nines_last, one_drifts, one_sign, one_v, shape, statics_placed, suppressed_places, suppression_apart, verdict}
-use Rattle.rules.specs.Edit.{marks}
-use Rattle.rules.specs.Layout.{accepted}
 use Rattle.rules.specs.Good.{bears, fits_room, good, in_order, marks_last, one_dollar, plain_number, suppressing, well_made}
 use Rattle.rules.proofs.Expand.{expanded, own_expansion, spelled}
 use Rattle.rules.proofs.Firsts.{first_zero, unless_zero}

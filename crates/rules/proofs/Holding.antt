@@ -19,7 +19,7 @@ use Rattle.rules.specs.Digits.{digits_of, value_of}
 use Rattle.rules.specs.Edit.{aligned, all_suppressible, cell, cell_at, digit_at, digit_char, drifts_to, edited, field, fill, first_shown, has_sign, in_range, in_stretch, is_blank, is_minus, is_shown, list_of, mark, opening, printed, quotient, rounds_up, start, suppressed, too_big}
 use Rattle.rules.specs.Near.{apart}
 use Rattle.rules.specs.Layout.{HasPlan, accepted, closes, count_fits, cut, forms, headers, plan_of, positions, record_length}
-use Rattle.rules.specs.Answers.{ReadIs, answer, answer_over, as_layout, check_answer, compile_answer, compile_memory, compile_number, edit_answer, edit_memory, edit_number, lent_after, no_plan_lem, number_over, read_answer, read_before, record_answer, record_in, record_of, row_after, row_answer, row_number, said, verdicts_in}
+use Rattle.rules.specs.Answers.{ReadIs, answer, answer_over, as_layout, check_answer, compile_answer, compile_memory, compile_number, edit_answer, edit_memory, edit_number, lent_after, as_no_plan, number_over, read_answer, read_before, record_answer, record_in, record_of, row_after, row_answer, row_number, said, verdicts_in}
 use Rattle.rules.specs.Collector.{bits_of, bytes_of, int_in, int_of, le_bytes, le_value, packed, read_run_number, row_bytes, row_in}
 use Rattle.rules.specs.Lister.{AllRead, Lists, ListsLines, answer_line, decimal, layout_line, line, lines_from, most_input, record_line, record_lines, trimmed}
 use Rattle.rules.specs.Good.{bears, fits_room, good, in_order, marks_last, one_dollar, plain_number, well_made}
@@ -184,7 +184,7 @@ holds (plan_edits l row out r after) e =
     as_layout (text l) (its_plan (text l) (passes _ _ e)) (record { gives = sym (answers _ _ e); leaves = sym (leaves _ _ e) })
 holds (no_plan b) e =
     let no = no_layout b (passes _ _ e) in
-    (λ rec row. no_plan_lem no (refl, refl), λ row out. no_plan_lem no (refl, refl))
+    (λ rec row. as_no_plan no (refl, refl), λ row out. as_no_plan no (refl, refl))
 holds (differs n f m q d) e = numbers_alone _ _ e
 holds (packs r n) e = numbers_alone _ _ e
 holds (stores row b) e = (leaves _ _ e, rows _ _ e)

@@ -12,7 +12,7 @@ use Rattle.rules.specs.Numbers.{first_of}
 use Rattle.rules.specs.Form.{Form, meaning, size}
 use Rattle.rules.specs.Shape.{digits_fit, verdict}
 use Rattle.rules.specs.Layout.{HasPlan, accepted, forms, plan_of}
-use Rattle.rules.specs.Answers.{ByPlan, PlanEditIs, PlanReadIs, ReadIs, RecordIs, RecordReads, RowIs, as_layout, no_plan_lem, read_answer, record_answer, row_after}
+use Rattle.rules.specs.Answers.{ByPlan, PlanEditIs, PlanReadIs, ReadIs, RecordIs, RecordReads, RowIs, as_layout, as_no_plan, read_answer, record_answer, row_after}
 use Rattle.rules.specs.Good.{good}
 use Rattle.rules.specs.Candidate.{read_all, read_of, reading_of}
 use Rattle.rules.specs.PlanBytes.{all_good, forms_in, is_plan}
@@ -96,9 +96,9 @@ record_one φs rec row h r s x y a b =
 -- Two outcomes by the same bytes: both are refused, or both are right for the same forms. Where either makes them the same they are the same.
 pub one_outcome : (b : List ℕ) {Refused Refused' Same : Type 0} {Right Right' : List Form → Type 0} → (Refused → Refused' → Same)
     → ((φs : List Form) → all_good φs ≡ true → Right φs → Right' φs → Same) → ByPlan b Refused Right → ByPlan b Refused' Right' → Same
-one_outcome b f g (no_plan_lem n p) (no_plan_lem m q) = f p q
-one_outcome b f g (no_plan_lem n p) (as_layout l h q) = absurd (n l h)
-one_outcome b f g (as_layout l h p) (no_plan_lem m q) = absurd (m l h)
+one_outcome b f g (as_no_plan n p) (as_no_plan m q) = f p q
+one_outcome b f g (as_no_plan n p) (as_layout l h q) = absurd (n l h)
+one_outcome b f g (as_layout l h p) (as_no_plan m q) = absurd (m l h)
 one_outcome b f g (as_layout l h p) (as_layout m k q) = g (forms l) (forms_good l h.layout) p (rw (layout_one b l m h k) q)
 
 -- an answer and what it leaves, each of them said
@@ -117,7 +117,7 @@ alike b l m p q Right h = rw (← layout_one b l m p q) h
 
 -- The plan of an accepted layout is never refused as one: by it every outcome is that of the layout's own text.
 pub of_layout : (l b : List ℕ) → HasPlan l b → (Refused : Type 0) (Right : List Form → Type 0) → ByPlan b Refused Right → Right (forms l)
-of_layout l b p Refused Right (no_plan_lem n q) = absurd (n l p)
+of_layout l b p Refused Right (as_no_plan n q) = absurd (n l p)
 of_layout l b p Refused Right (as_layout m q h) = alike b m l q p Right h
 
 pub compiled_reads : (l : List ℕ) → accepted l ≡ true → (rec : List ℕ) (row : List ℤ) (r : Answer) (after : List ℤ) → PlanReadIs (plan_of (forms l)) rec row r after
@@ -133,4 +133,4 @@ pub by_plan_lem : (b : List ℕ) (Refused : Type 0) (Right : List Form → Type 
 by_plan_lem b Refused Right f g =
     by_test (is_plan b)
     (λ e. let w = plan_has b e in as_layout w.0 w.1 (rw w.2 (g e)))
-    (λ e. no_plan_lem (no_layout b e) (f e))
+    (λ e. as_no_plan (no_layout b e) (f e))

@@ -10,10 +10,8 @@ use mathlib.Core.Bool.{true}
 use lib.Dec.{leb}
 use lib.ListN.{length, get_or, take, drop}
 use lib.Seq.{drop-drop, get_or-drop}
-use Rattle.rules.specs.Form.{Form, formed, size}
-use Rattle.rules.specs.Shape.{whole}
+use Rattle.rules.specs.Form.{Form, formed}
 use Rattle.rules.specs.Layout.{most_pictures, plan_of, record_length}
-use Rattle.rules.specs.Good.{good}
 use Rattle.rules.specs.PlanBytes.{all_good, forms_from, forms_in, is_plan}
 use Rattle.rules.proofs.Lists.{same_eq}
 use Rattle.rules.proofs.Logic.{both}

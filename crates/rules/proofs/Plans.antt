@@ -1,7 +1,7 @@
 -- Bytes are the plan of some accepted layout exactly when the forms read off them are good and give them again; and two accepted layouts with
 -- one plan have the same forms, so that they edit and read every row and record alike. The layout for a plan is its forms written back, each
 -- closes by `;`. Assumes nothing.
-use Prim.Native.Nat.{ℕ, ◌+◌, ◌-◌, ◌*◌, ◌/◌, ◌%◌, ◌≤◌}
+use Prim.Native.Nat.{ℕ, ◌+◌, ◌*◌, ◌/◌, ◌%◌, ◌≤◌}
 use Prim.Native.Char.{code}
 use mathlib.Core.Path.{◌≡◌, refl, sym, ap, ◌∙◌}
 use mathlib.Core.Bool.{Bool, true, false, true≢false, not, ◌&&◌}

@@ -12,10 +12,9 @@ use lib.Dec.{leb, ltb, eqb}
 use lib.ListN.{length, get_or}
 use Rattle.rules.specs.Words.{any}
 use Rattle.rules.specs.Search.{each, first}
-use Rattle.rules.specs.Text.{next}
 use Rattle.rules.specs.Roles.{drifts, is_digit, is_first_drifting, is_nine, is_punched, is_sign, is_static, is_suppressible, opens, role_limit}
 use Rattle.rules.specs.Form.{Form, role_at, size}
-use Rattle.rules.specs.Shape.{drifting, drifts_before_v, nines_last, statics_placed}
+use Rattle.rules.specs.Shape.{drifts_before_v, nines_last, statics_placed}
 use Rattle.rules.specs.Edit.{opening}
 use Rattle.rules.specs.Good.{bears, in_order, marks_last, plain_number}
 use Rattle.rules.proofs.Search.{each_at, first_holds}

@@ -11,8 +11,7 @@ use lib.ListN.{length}
 use Rattle.rules.specs.Words.{has, one, place, same, times}
 use Rattle.rules.specs.Text.{is_mark, is_symbol, symbols, the_v}
 use Rattle.rules.specs.Roles.{is_punched, role_limit}
-use Rattle.rules.specs.Form.{number, numbered, numbers, size}
-use Rattle.rules.specs.Edit.{marks}
+use Rattle.rules.specs.Form.{number, numbers}
 use Rattle.rules.specs.Good.{marks_last, plain_number}
 use Rattle.rules.proofs.Expand.{spelled}
 use Rattle.rules.proofs.Lists.{all, all_below_lem, all_below, member_at, members, same_eq}

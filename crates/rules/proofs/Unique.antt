@@ -9,7 +9,7 @@ use native.Mathlib.Omega.{arith}
 use borrow.Author.Tests.{lt-leb, le-ltb, ne_eqb}
 use lib.Dec.{leb, ltb}
 use lib.ListN.{get_or}
-use Rattle.rules.specs.Words.{any, same}
+use Rattle.rules.specs.Words.{any}
 use Rattle.rules.specs.Search.{first}
 use Rattle.rules.specs.Roles.{is_digit, is_sign}
 use Rattle.rules.specs.Form.{Form, role_at, size}

@@ -1,5 +1,5 @@
 -- RULES 6: what each call answers and what the lent memory holds afterwards, over all inputs. Assumes nothing.
-use Rattle.std.specs.Prelude.{ℕ, zero, suc, ◌+◌, ◌≡◌, cond, List, [], ◌∷◌, ◌++◌, map, ℤ, pos, ltb, eqb, length, take, drop}
+use Rattle.std.specs.Prelude.{ℕ, zero, suc, ◌≡◌, cond, List, [], ◌∷◌, ◌++◌, map, ℤ, pos, ltb, eqb, length, take, drop}
 use Rattle.std.proofs.Math.Option.{Option, none, some}
 use Rattle.rules.specs.declared.Answer.{Answer}
 use Rattle.rules.specs.declared.Rounding.{Rounding}
@@ -121,7 +121,7 @@ pub record RecordIs (φs : List Form) (rec : List ℕ) (row : List ℤ) (r : Ans
 -- RULES 5.4 and 5.5: bytes that no accepted layout has are refused; else all is as that layout's own text has it. `Right φs` says what is right
 -- for its pictures.
 pub data ByPlan (b : List ℕ) (Refused : Type 0) (Right : List Form → Type 0) : Type 0 where
-  no_plan_lem : ((l : List ℕ) → HasPlan l b → ⊥) → Refused → ByPlan b Refused Right
+  as_no_plan : ((l : List ℕ) → HasPlan l b → ⊥) → Refused → ByPlan b Refused Right
   as_layout : (l : List ℕ) → HasPlan l b → Right (forms l) → ByPlan b Refused Right
 
 abbrev pub not_plan : {A : Type 0} → List A → Answer → List A → Type 0

@@ -1,6 +1,8 @@
 // The rules of docs/RULES.md as definitions (specs/), with the laws that every other crate cites (proofs/). The types that the
 // definitions speak of stand here with the limits, so that every crate shares them; what functions there are tie the limits to the
 // definitions.
+#![tactic(auto)]
+
 ghost use Rattle.std.specs.Prelude.{◌≡◌, [], ◌∷◌, ◌^◌};
 ghost use Rattle.rules.specs.Text.{most_text, most_copies, most_symbols};
 ghost use Rattle.rules.specs.Shape.{most_digits};

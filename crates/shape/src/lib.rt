@@ -1,6 +1,8 @@
 // The rules of shape, judged in one pass over the roles of a form: of a picture whether its shape is right and its digits fit, of a
 // plan's field whether any accepted picture has it. The rules themselves are those of the crate rules. The pass is a machine, whose
 // phase holds what the next roles ask of those before, and a sum of weights, which holds what the rules count.
+#![tactic(auto)]
+
 pub mod tables; // tables.rt: the machine and the weights
 
 ghost use Rattle.std.specs.Prelude.{◌+◌, ◌*◌, ◌<◌, ◌≤◌, ◌≡◌, length};

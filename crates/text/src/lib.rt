@@ -1,4 +1,6 @@
 // From picture text to symbols: one walk over the bytes, whose state is what has been read of a factor.
+#![tactic(auto)]
+
 ghost use Rattle.std.specs.Prelude.{◌≡◌, [], ◌+◌, ◌*◌, ◌<◌, ◌≤◌, length, replicate};
 ghost use Rattle.rules.specs.Text.{is_symbol, repeats, worth, allows, is_plain, next, copies, room_of, most_text, most_copies};
 ghost use Rattle.text.specs.Expansion.{expanded_of, filled, spelled_of};

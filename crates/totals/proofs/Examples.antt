@@ -10,7 +10,7 @@ use Rattle.rules.specs.Words.{text}
 use Rattle.rules.specs.Layout.{accepted, forms, plan_of}
 use Rattle.rules.specs.PlanBytes.{is_plan}
 use Rattle.rules.specs.Candidate.{read_all}
-use Rattle.rules.specs.Answers.{as_layout, no_plan_lem}
+use Rattle.rules.specs.Answers.{as_layout, as_no_plan}
 use Rattle.rules.specs.Sheet.{success}
 use Rattle.rules.proofs.Holding.{definitions}
 use Rattle.rules.proofs.Outcomes.{all_read}
@@ -72,7 +72,7 @@ holds (adds_alone l rec s r after) e =
     (record { says = _; reads = all_read _ _ (forms_good (text l) a); gives = sym (ap (λ (o : Outcome). o.added) e) })
 holds (no_plan b) e =
     let n = no_layout b (ap (λ (o : Outcome). o.layout) e) in
-    (λ batch at s. no_plan_lem n refl, λ rec s. no_plan_lem n refl, λ batch at. no_plan_lem n refl)
+    (λ batch at s. as_no_plan n refl, λ rec s. as_no_plan n refl, λ batch at. as_no_plan n refl)
 holds (finds n len at there) e = ap (λ (o : Outcome). o.next) e
 holds (sums ms all low high) e =
     let at : (i : ℕ) → get_or (found (sums ms all low high)).values i (pos 0) ≡ get_or (says (sums ms all low high)).values i (pos 0) =

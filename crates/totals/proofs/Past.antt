@@ -1,7 +1,7 @@
 -- The history of a sheet: whatever was added by one plan since it was empty, it holds the totals of exactly the records that were accepted, and behind
 -- a refusal it is what was handed in. Each addition is any that meets the contract, so that this holds of the code. An addition leaves the sheet or
 -- has one row more, by the number that came back; the rest is an induction over the history. Assumes nothing.
-use Prim.Native.Nat.{ℕ, zero, suc, ◌+◌, ◌<◌, ◌≤◌}
+use Prim.Native.Nat.{ℕ, zero, suc, ◌<◌, ◌≤◌}
 use mathlib.Core.Path.{◌≡◌, refl, sym, ◌∙◌, ap}
 use mathlib.Core.Bool.{true, false, and-false, true≢false, false≢true}
 use mathlib.Core.Logic.{◌⊎◌, inl, inr, ⊎_elim}
@@ -15,7 +15,7 @@ use lib.ListN.{length, get_or, length-map, replicate}
 use Rattle.rules.specs.Numbers.{first_of}
 use Rattle.rules.specs.Form.{Form}
 use Rattle.rules.specs.Layout.{HasPlan, forms, most_pictures, record_length}
-use Rattle.rules.specs.Answers.{amounts, answer, answer_over, as_layout, no_plan_lem, number_over, row_length, unsaid}
+use Rattle.rules.specs.Answers.{amounts, answer, answer_over, as_layout, as_no_plan, number_over, row_length, unsaid}
 use Rattle.rules.specs.PlanBytes.{all_good}
 use Rattle.rules.proofs.Firsts.{first_zero}
 use Rattle.rules.proofs.Logic.{by_test}
@@ -102,7 +102,7 @@ module _ (φs : List Form) (batch : List ℕ) (at : ℕ) (s : Sheet) (r : Added)
 -- behind a refusal the sheet is what was handed in
 pub refused_stays : (b batch : List ℕ) (at : ℕ) (s : Sheet) (r : Added) → AddIs b batch at s r → (r.answer.number ≡ 0 → ⊥) → r.sheet ≡ s
 unfolding is_accepted
-refused_stays b batch at s r (no_plan_lem n x) h = ap (λ (y : Added). y.sheet) x
+refused_stays b batch at s r (as_no_plan n x) h = ap (λ (y : Added). y.sheet) x
 refused_stays b batch at s r (as_layout l p a) h = stays (forms l) batch at s r a (rw (ne_eqb r.answer.number 0 h))
 
 -- One more row.
@@ -263,14 +263,14 @@ module _ (b l : List ℕ) (p : HasPlan l b) where
 -- behind a refusal of a record alone the sheet is what was handed in too
 pub refused_stays_alone : (b rec : List ℕ) (s : Sheet) (r : Added) → RecordAddIs b rec s r → (r.answer.number ≡ 0 → ⊥) → r.sheet ≡ s
 unfolding is_accepted
-refused_stays_alone b rec s r (no_plan_lem n x) h = ap (λ (y : Added). y.sheet) x
+refused_stays_alone b rec s r (as_no_plan n x) h = ap (λ (y : Added). y.sheet) x
 refused_stays_alone b rec s r (as_layout l p a) h =
     ⊎_elim (λ x. stays (forms l) rec 0 s r x (rw (ne_eqb r.answer.number 0 h))) (λ x. x.1) (alone_as b l p rec s r (as_layout l p a))
 
 -- Bytes that no layout has as its plan leave an empty sheet empty.
 pub unplanned : (b : List ℕ) → ((l : List ℕ) → HasPlan l b → ⊥) → (h : List Offer) (s : Sheet) → Went b h s → s ≡ empty_sheet
 unplanned b n _ _ begun = refl
-unplanned b n _ _ (further {h} {s} w batch at r (no_plan_lem m x)) = ap (λ (y : Added). y.sheet) x ∙ unplanned b n h s w
+unplanned b n _ _ (further {h} {s} w batch at r (as_no_plan m x)) = ap (λ (y : Added). y.sheet) x ∙ unplanned b n h s w
 unplanned b n _ _ (further {h} {s} w batch at r (as_layout l p x)) = absurd (n l p)
-unplanned b n _ _ (alone {h} {s} w rec r (no_plan_lem m x)) = ap (λ (y : Added). y.sheet) x ∙ unplanned b n h s w
+unplanned b n _ _ (alone {h} {s} w rec r (as_no_plan m x)) = ap (λ (y : Added). y.sheet) x ∙ unplanned b n h s w
 unplanned b n _ _ (alone {h} {s} w rec r (as_layout l p x)) = absurd (n l p)

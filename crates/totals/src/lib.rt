@@ -1,6 +1,8 @@
 // A totals sheet (RULES 9): how many records were added and, for each place of a row, the sum, least and greatest of its values. An
 // addition takes the sheet and hands it back. What an addition by a plan answers, and what a walk over a batch hands over, is defined here
 // too (specs/); crate `planread` has the calls.
+#![tactic(auto)]
+
 mod sums; // sums.rt: which sums are too big, and the lesser and the greater of two numbers
 
 ghost use Rattle.std.specs.Prelude.{◌≡◌, min, take};

@@ -1,4 +1,6 @@
 // One value against one form: whether it is in range and fits, and the sign and the aligned magnitude that its field shows.
+#![tactic(auto)]
+
 pub mod own; // own.rt: a value at the form's own scale
 
 ghost use Rattle.std.specs.Prelude.{◌≡◌, false, ◌<◌};

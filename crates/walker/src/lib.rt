@@ -1,6 +1,8 @@
 // A walker over a batch (RULES 9.3): a batch that is lent and where its next record begins, in one struct, so that whoever walks has one thing to keep.
 // What stands at a place is decided in `planread::batch::next`, by a run and a place; a walker only holds them. Its functions have no branch
-// and no loop: whatever takes or makes a struct with a reference in it is proved by hand, step by step.
+// and no loop.
+#![tactic(auto)]
+
 ghost use Rattle.std.specs.Prelude.{◌≡◌};
 ghost use Rattle.totals.specs.Batch.{NextIs};
 

@@ -1,5 +1,7 @@
 // Rows as runs of bytes: signed 64-bit numbers in two's complement, eight little-endian bytes each. No function that is called from
 // outside has a `requires`: where eight bytes do not fit, nothing is written and 0 is read.
+#![tactic(auto)]
+
 ghost use Rattle.std.specs.Prelude.{◌≡◌, ◌+◌, ◌≤◌, ◌<◌, length, take, drop};
 ghost use Rattle.rules.specs.Collector.{bits_of, int_of, le_value};
 ghost use Rattle.wire.specs.Run.{put_at, get_at, put_row, get_row};

@@ -1,6 +1,5 @@
 -- `collector::edit_by` meets its contract. Assumes nothing.
 use mathlib.Core.Path.{◌∙◌}
-use borrow.Author.Rules.{rules}
 use Rattle.collector.proofs.PlanCalls.{row_got, plan_edited, edit_small}
 use Rattle.collector.proofs.edit_by.Goals as goal
 

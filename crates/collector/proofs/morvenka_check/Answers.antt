@@ -1,6 +1,5 @@
 -- `collector::morvenka_check` meets its contract. Assumes nothing.
 use mathlib.Core.Path.{◌∙◌, ap}
-use borrow.Author.Rules.{rules}
 use Rattle.rules.specs.Collector.{packed}
 use Rattle.collector.proofs.Lengths.{check_length}
 use Rattle.collector.proofs.morvenka_check.Goals as goal

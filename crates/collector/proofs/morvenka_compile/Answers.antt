@@ -1,6 +1,5 @@
 -- `collector::morvenka_compile` meets its contract. Assumes nothing.
 use mathlib.Core.Path.{◌∙◌, ap}
-use borrow.Author.Rules.{rules}
 use Rattle.rules.specs.Collector.{packed}
 use Rattle.collector.proofs.PlanCalls.{compile_small}
 use Rattle.collector.proofs.morvenka_compile.Goals as goal

@@ -1,6 +1,5 @@
 -- `collector::morvenka_edit_cut` meets its contract. Assumes nothing.
 use mathlib.Core.Path.{◌∙◌, ap}
-use borrow.Author.Rules.{rules}
 use mir.Facts.{to_z-of_z}
 use Rattle.rules.specs.Collector.{packed}
 use Rattle.collector.proofs.Lengths.{edit_length}

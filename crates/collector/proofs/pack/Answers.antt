@@ -1,6 +1,5 @@
 -- `collector::pack` meets its contract. Assumes nothing.
 use mathlib.Core.Path.{refl}
-use borrow.Author.Rules.{rules}
 use Rattle.rules.specs.Collector.{packed}
 use Rattle.collector.proofs.pack.Goals as goal
 

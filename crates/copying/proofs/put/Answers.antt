@@ -1,11 +1,9 @@
 -- `copying::put` meets its contract: the bytes left, put from here on, give the whole. Assumes nothing.
-use mathlib.Core.Path.{◌≡◌, refl, sym, ◌∙◌}
+use mathlib.Core.Path.{refl, sym, ◌∙◌}
 use borrow.Author.Rules.{rules}
-use Prim.Native.Nat.{◌+◌, ◌-◌, ◌≤◌}
 use native.Mathlib.Nat.{add-zero}
 use native.Mathlib.Omega.{arith}
-use lib.ListN.{length, drop, length-set}
-use lib.Seq.{sets}
+use lib.ListN.{length-set}
 use Rattle.copying.proofs.Copies.{copied_in, copied_out, copy_more, copy_done}
 use Rattle.copying.proofs.put.Goals as goal
 

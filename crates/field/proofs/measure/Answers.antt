@@ -1,5 +1,4 @@
 -- `measure`: what the survey counts is what the definition counts. Assumes nothing.
-use borrow.Author.Rules.{rules}
 use Rattle.rules.specs.Shape.{places, whole}
 use Rattle.rules.specs.Edit.{has_sign}
 use Rattle.field.specs.Results.{measure_of}

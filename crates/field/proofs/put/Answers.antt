@@ -1,12 +1,10 @@
 -- `put`: each way through it is a law of Puts. Assumes nothing.
 use mathlib.Core.Path.{◌≡◌}
 use mathlib.Core.Bool.{false}
-use mathlib.Core.Logic.{⊎_elim}
 use native.Mathlib.Omega.{arith}
 use Rattle.rules.specs.Edit.{is_blank}
 use Rattle.rules.specs.Form.{formed}
 use Rattle.field.proofs.Puts.{nine_shows, put_blanked, put_out, put_showing, some_shows}
-use borrow.Author.Rules.{rules}
 use mathlib.Core.Bool.{not}
 use mathlib.Core.Path.{ap}
 use Rattle.field.proofs.put.Goals as goal

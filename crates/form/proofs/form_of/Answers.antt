@@ -1,5 +1,4 @@
 -- `form::form_of` meets its contract: kind, roles and V's place are those of `form_of`. Assumes nothing.
-use borrow.Author.Rules.{rules}
 use mathlib.Core.Path.{sym, ap, ◌∙◌}
 use lib.ListN.{length}
 use Rattle.rules.specs.Form.{form_of}

@@ -1,5 +1,4 @@
 -- `form::one_suppresses` meets its contract. Assumes nothing.
-use borrow.Author.Rules.{rules}
 use Rattle.form.specs.Rooms.{suppression_of}
 use Rattle.form.proofs.Numbering.{one_kind}
 use Rattle.form.proofs.one_suppresses.Goals as goal

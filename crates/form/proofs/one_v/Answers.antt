@@ -1,5 +1,4 @@
 -- `form::one_v` meets its contract. Assumes nothing.
-use borrow.Author.Rules.{rules}
 use Rattle.rules.specs.Shape.{one_v}
 use Rattle.form.proofs.one_v.Goals as goal
 

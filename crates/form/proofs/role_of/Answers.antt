@@ -1,6 +1,5 @@
 -- `form::role_of` meets its contract. Assumes nothing.
 use mathlib.Core.Path.{sym, ◌∙◌}
-use borrow.Author.Rules.{rules}
 use Rattle.form.specs.Rooms.{role_of}
 use Rattle.form.proofs.role_of.Goals as goal
 

@@ -1,14 +1,10 @@
 -- `form::roles_of` meets its contract. The loop keeps `Walk`: the roles placed and what is left make the whole. Assumes nothing.
 use mathlib.Core.Path.{sym, ◌∙◌}
-use mathlib.Core.Logic.{⊎_elim}
 use borrow.Author.Rules.{rules}
-use Prim.Native.Nat.{◌-◌, ◌≤◌}
 use native.Mathlib.Omega.{arith}
-use lib.Dec.{leb}
-use lib.ListN.{length}
 use Rattle.rules.proofs.Marks.{mark_length}
 use Rattle.form.specs.Rooms.{roles_room}
-use Rattle.form.proofs.Rows.{Walk, walk_none, walk_v, walk_symbol, walk_mark, walk_done}
+use Rattle.form.proofs.Rows.{walk_none, walk_v, walk_symbol, walk_mark, walk_done}
 use Rattle.form.proofs.roles_of.Goals as goal
 use Rattle.form.proofs.roles_of.Goals.{Then-mark_at, else-symbol-ne86, then-symbol-ne86}
 

@@ -1,12 +1,9 @@
 -- `form::tally` meets its contract. What has been counted and what is left make the whole. Assumes nothing.
-use borrow.Author.Rules.{rules}
 use mathlib.Core.Path.{◌≡◌}
-use mathlib.Core.Logic.{⊎_elim}
 use Prim.Native.Nat.{◌+◌, ◌-◌, ◌≤◌}
 use lib.ListN.{drop}
 use Rattle.rules.specs.Words.{times}
 use Rattle.rules.specs.Text.{held_in}
-use Rattle.form.proofs.Counts.{hit, miss, counted}
 use Rattle.form.proofs.tally.Given as goal
 
 abbrev pub invariant-loop-i : goal.invariant-loop-i

@@ -1,10 +1,5 @@
 -- `form::vee_of` meets its contract. The places passed and what is left make the whole. Assumes nothing.
 use borrow.Author.Rules.{rules}
-use mathlib.Core.Path.{◌≡◌}
-use Prim.Native.Nat.{◌+◌, ◌-◌, ◌≤◌}
-use lib.ListN.{drop}
-use Rattle.rules.specs.Words.{place}
-use Rattle.rules.specs.Text.{the_v, held_in}
 use Rattle.form.proofs.Counts.{found, passed, absent}
 use Rattle.form.proofs.vee_of.Goals as goal
 

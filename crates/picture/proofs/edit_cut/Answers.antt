@@ -1,5 +1,4 @@
 -- `picture::edit_cut` meets its contract: it is `edit_judged` in its mode, by the text's verdict. Assumes nothing.
-use borrow.Author.Rules.{rules}
 use mir.Facts.{to_z-of_z}
 use Rattle.picture.proofs.Judging.{picture_good}
 use Rattle.picture.proofs.EditWays.{by_verdict}

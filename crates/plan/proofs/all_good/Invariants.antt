@@ -1,15 +1,10 @@
 -- `plan::all_good` meets its contract: what has been passed and the n that are left make the whole, and the forms that are left decide. Assumes nothing.
-use borrow.Author.Rules.{rules}
 use Prim.Native.Nat.{◌+◌, ◌-◌, ◌*◌, ◌≤◌}
-use mathlib.Core.Path.{◌≡◌, sym, ap, ◌∙◌}
-use mathlib.Core.Bool.{◌&&◌, and-false, and-true}
-use native.Mathlib.Omega.{arith}
+use mathlib.Core.Path.{◌≡◌}
 use lib.ListN.{length}
 use Rattle.rules.specs.PlanBytes.{all_good, forms_in}
 use Rattle.rules.proofs.PlanWalk.{forms_at}
-use Rattle.shape.proofs.Found.{found_good}
-use Rattle.plan.specs.Widths.{fills_bytes, widths_at}
-use Rattle.plan.proofs.Turns.{field_bad, field_good, fields_good, fields_start, part_past, sum_done, sum_more}
+use Rattle.plan.specs.Widths.{widths_at}
 use Rattle.plan.proofs.all_good.Given as goal
 
 abbrev pub invariant-loop-i : goal.invariant-loop-i

@@ -1,5 +1,4 @@
 -- `plan::two_bytes` meets its contract: each byte is below 256, so that nothing overflows and the low byte is one. Assumes nothing.
-use borrow.Author.Rules.{rules}
 use Prim.Native.Nat.{◌+◌, ◌<◌}
 use mathlib.Core.Path.{refl}
 use native.Mathlib.Omega.{arith}

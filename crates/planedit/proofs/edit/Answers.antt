@@ -1,7 +1,5 @@
 -- `planedit::edit` meets its contract: bytes that are no plan are refused, and by a plan the row is edited. Assumes nothing.
 use mathlib.Core.Path.{sym, ◌∙◌}
-use borrow.Author.Rules.{rules}
-use borrow.Author.Tests.{not-false}
 use Rattle.planedit.proofs.Ways.{no_plan_edit, plan_edit}
 use mathlib.Core.Bool.{not}
 use mathlib.Core.Path.{ap}

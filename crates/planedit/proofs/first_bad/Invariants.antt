@@ -1,11 +1,8 @@
 -- `planedit::first_bad` meets its contract: each way through its loop is a law of Judging. Assumes nothing.
-use mathlib.Core.Path.{◌≡◌, refl}
-use borrow.Author.Rules.{rules}
-use Prim.Native.Nat.{◌+◌, ◌-◌, ◌*◌, ◌≤◌}
-use native.Mathlib.Omega.{arith}
+use mathlib.Core.Path.{◌≡◌}
+use Prim.Native.Nat.{◌-◌, ◌≤◌}
 use lib.ListN.{length}
-use Rattle.planedit.proofs.Values.{Handed, handed}
-use Rattle.planedit.proofs.Judging.{Judged, field_within, judged_bad, judged_end, judged_start, judged_step, parts}
+use Rattle.planedit.proofs.Judging.{Judged}
 use Rattle.planedit.proofs.first_bad.Given as goal
 
 abbrev pub invariant-loop-i : goal.invariant-loop-i

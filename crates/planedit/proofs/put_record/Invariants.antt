@@ -1,11 +1,8 @@
 -- `planedit::put_record` meets its contract: each turn of its loop is a law of Writing. Assumes nothing.
-use mathlib.Core.Path.{◌≡◌, refl}
-use borrow.Author.Rules.{rules}
-use Prim.Native.Nat.{◌+◌, ◌-◌, ◌*◌, ◌≤◌}
-use native.Mathlib.Omega.{arith}
+use mathlib.Core.Path.{◌≡◌}
+use Prim.Native.Nat.{◌-◌, ◌≤◌}
 use lib.ListN.{length}
-use Rattle.planedit.proofs.Values.{Handed, handed}
-use Rattle.planedit.proofs.Writing.{Written, written_end, written_fine, written_start, written_step, written_within}
+use Rattle.planedit.proofs.Writing.{Written}
 use Rattle.planedit.proofs.put_record.Given as goal
 
 abbrev pub invariant-loop-i : goal.invariant-loop-i

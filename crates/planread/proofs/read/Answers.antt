@@ -1,7 +1,5 @@
 -- `planread::read` meets its contract: bytes that are no plan are refused, and by a plan the outcome is that of its forms. Assumes nothing.
 use mathlib.Core.Path.{refl, sym, ◌∙◌}
-use borrow.Author.Rules.{rules}
-use borrow.Author.Tests.{not-true, not-false}
 use Rattle.planread.proofs.Ways.{by_forms, no_plan_here}
 use Rattle.planread.proofs.read.Goals as goal
 

@@ -1,5 +1,4 @@
 -- `is_digit`: 0 and 1 by one comparison, and what is punched. Assumes nothing.
-use borrow.Author.Rules.{rules}
 use Rattle.roles.proofs.Ranges.{digit_is}
 use Rattle.roles.proofs.is_digit.Goals as goal
 

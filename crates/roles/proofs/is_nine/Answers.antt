@@ -1,5 +1,4 @@
 -- `is_nine` is the definition. Assumes nothing.
-use borrow.Author.Rules.{rules}
 use Rattle.rules.specs.Roles.{is_nine}
 use Rattle.roles.proofs.is_nine.Goals as goal
 

@@ -1,5 +1,4 @@
 -- `is_sign` is the definition. Assumes nothing.
-use borrow.Author.Rules.{rules}
 use Rattle.rules.specs.Roles.{is_sign}
 use Rattle.roles.proofs.is_sign.Goals as goal
 

@@ -1,5 +1,4 @@
 -- The definition, with what the call gives. Assumes nothing.
-use borrow.Author.Rules.{rules}
 use Rattle.shape.specs.Machine.{found_in}
 use Rattle.shape.proofs.find.Goals as goal
 

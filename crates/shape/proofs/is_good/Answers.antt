@@ -1,5 +1,4 @@
 -- The tables are those of the machine, so that the pass finds whether the form is good. Assumes nothing.
-use borrow.Author.Rules.{rules}
 use Rattle.rules.specs.Form.{formed}
 use Rattle.shape.proofs.Found.{found_good}
 use Rattle.shape.proofs.is_good.Goals as goal

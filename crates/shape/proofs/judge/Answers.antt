@@ -1,5 +1,4 @@
 -- The tables are those of the machine, so that the pass finds what the rules say. Assumes nothing.
-use borrow.Author.Rules.{rules}
 use Rattle.rules.specs.Form.{formed}
 use Rattle.shape.proofs.Found.{found_judged}
 use Rattle.shape.proofs.judge.Goals as goal

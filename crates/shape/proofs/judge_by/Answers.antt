@@ -1,5 +1,4 @@
 -- A form that is too long is refused at once. Else the two walks go over the roles before V and those behind it. Assumes nothing.
-use borrow.Author.Rules.{rules}
 use borrow.Author.Tests.{le-leb, lt-leb, ltb-true, ltb-false}
 use Prim.Native.Nat.{ℕ, ◌≤◌, ◌-◌, min}
 use mathlib.Core.Path.{◌≡◌, refl, sym, ◌∙◌}

@@ -1,14 +1,8 @@
 -- What has been walked and what is still to come give what the whole gives; a phase is a byte, and each role adds one weight at the most. Assumes nothing.
-use borrow.Author.Rules.{rules}
-use Prim.Native.Nat.{ℕ, ◌+◌, ◌*◌, ◌-◌, ◌≤◌, ◌<◌}
-use mathlib.Core.Path.{◌≡◌, refl, sym, ◌∙◌}
-use mathlib.Core.List.{List, []}
-use native.Mathlib.Numerals.{add-one}
-use native.Mathlib.Omega.{arith}
-use lib.ListN.{length, drop, get_or, drop_of_length-le}
-use lib.Seq.{drop-cons}
-use Rattle.shape.specs.declared.Walked.{Walked}
-use Rattle.shape.specs.Machine.{walked_all, walked_next}
+use Prim.Native.Nat.{◌+◌, ◌*◌, ◌-◌, ◌≤◌, ◌<◌}
+use mathlib.Core.Path.{◌≡◌}
+use lib.ListN.{length, drop}
+use Rattle.shape.specs.Machine.{walked_all}
 use Rattle.shape.proofs.walk.Given as goal
 
 abbrev pub invariant-loop-i : goal.invariant-loop-i

@@ -1,5 +1,4 @@
 -- `text::can_repeat` meets its contract: the symbols that a factor may repeat are all but V and R. Assumes nothing.
-use borrow.Author.Rules.{rules}
 use Rattle.text.proofs.Bytes.{single_repeats, symbol_repeats}
 use Rattle.text.proofs.can_repeat.Goals as goal
 

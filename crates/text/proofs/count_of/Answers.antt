@@ -1,7 +1,6 @@
 -- `text::count_of` meets its contract: at each return the mode and the tests say which case of `copies` holds. Assumes nothing.
 use mathlib.Core.Path.{sym, ◌∙◌}
 use native.Mathlib.Omega.{arith}
-use borrow.Author.Rules.{rules}
 use borrow.Author.Tests.{eq-eqb, ne_eqb}
 use Rattle.rules.specs.Text.{copies}
 use Rattle.text.proofs.Bytes.{allows_le}

@@ -1,7 +1,6 @@
 -- `text::is_allowed` meets its contract. Assumes nothing.
 use mathlib.Core.Path.{sym, ◌∙◌}
 use borrow.Author.Rules.{rules}
-use borrow.Author.Tests.{not-true, not-false}
 use Rattle.rules.proofs.Decide.{decide}
 use Rattle.text.proofs.is_allowed.Goals as goal
 

@@ -1,13 +1,12 @@
 -- `text::put` meets its contract. The loop's invariant: what is still to be written into what stands there now gives the whole. Assumes
 -- nothing.
 use borrow.Author.Rules.{rules}
-use Prim.Native.Nat.{◌≤◌, ◌+◌, ◌-◌}
+use Prim.Native.Nat.{◌+◌, ◌-◌}
 use native.Mathlib.Nat.{add-zero, sub-zero}
 use native.Mathlib.Omega.{arith}
 use mathlib.Core.Path.{◌≡◌, sym, ◌∙◌}
-use mathlib.Core.Logic.{⊎_elim}
-use lib.ListN.{length, set, replicate, length-set, length-replicate}
-use lib.Seq.{sets, set_out}
+use lib.ListN.{set, length-set, length-replicate}
+use lib.Seq.{set_out}
 use Rattle.text.specs.Expansion.{filled}
 use Rattle.text.proofs.Walk.{fill_step}
 use Rattle.text.proofs.put.Goals as goal

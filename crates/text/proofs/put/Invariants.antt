@@ -1,15 +1,9 @@
 -- `text::put` meets its contract. The loop's invariant: what is still to be written into what stands there now gives the whole. Assumes
 -- nothing.
-use borrow.Author.Rules.{rules}
 use Prim.Native.Nat.{◌≤◌, ◌+◌, ◌-◌}
-use native.Mathlib.Nat.{add-zero, sub-zero}
-use native.Mathlib.Omega.{arith}
-use mathlib.Core.Path.{◌≡◌, sym, ◌∙◌}
-use mathlib.Core.Logic.{⊎_elim}
-use lib.ListN.{length, set, replicate, length-set, length-replicate}
-use lib.Seq.{sets, set_out}
-use Rattle.text.specs.Expansion.{filled}
-use Rattle.text.proofs.Walk.{fill_step}
+use mathlib.Core.Path.{◌≡◌}
+use lib.ListN.{length, replicate}
+use lib.Seq.{sets}
 use Rattle.text.proofs.put.Given as goal
 
 abbrev pub invariant-loop-k : goal.invariant-loop-k

@@ -2,14 +2,13 @@
 use borrow.Author.Rules.{rules}
 use mathlib.Core.Path.{◌≡◌, sym, ◌∙◌}
 use mathlib.Core.Bool.{false, ◌&&◌}
-use mathlib.Core.Logic.{⊎_elim}
-use Prim.Native.Nat.{◌≤◌, ◌-◌}
+use Prim.Native.Nat.{◌-◌}
 use native.Mathlib.Omega.{arith}
 use lib.ListN.{length, drop}
 use Rattle.rules.specs.Text.{is_plain, is_mark}
 use Rattle.text.specs.Expansion.{filled, spelled_of}
 use Rattle.rules.proofs.Marks.{mark_length, two_left}
-use Rattle.text.proofs.Walk.{Head, head_none, head_more, head_mark, head_done, not_plain, not_mark}
+use Rattle.text.proofs.Walk.{head_none, head_more, head_mark, head_done, not_plain, not_mark}
 use Rattle.text.proofs.spell.Goals as goal
 use Rattle.text.proofs.spell.Goals.{Joined-is_plain, Then-mark_at, else-is_plain, then-is_plain+else-mark_at}
 

@@ -1,6 +1,5 @@
 -- `text::step` meets its contract: at each return the mode and the tests say which case of `next` holds. Assumes nothing.
 use mathlib.Core.Path.{sym, ◌∙◌}
-use borrow.Author.Rules.{rules}
 use borrow.Author.Tests.{eq-eqb, ne_eqb}
 use Rattle.rules.specs.Text.{next}
 use Rattle.text.proofs.step.Goals as goal

@@ -1,5 +1,4 @@
 -- `text::unspelled` meets its contract. Assumes nothing.
-use borrow.Author.Rules.{rules}
 use Rattle.text.proofs.unspelled.Goals as goal
 
 pub returns : goal.returns

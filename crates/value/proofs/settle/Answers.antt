@@ -1,7 +1,6 @@
 -- `value::settle` meets its contract: each way through it is a law of Ways. Assumes nothing.
 use mathlib.Core.Path.{◌≡◌, refl, ◌∙◌, ap}
 use native.Mathlib.Omega.{arith}
-use borrow.Author.Rules.{rules}
 use mir.Facts.{to_z-of_z}
 use Rattle.decimal.specs.Sign.{parts_of}
 use Rattle.value.proofs.Ways.{out_of_range, out_of_scale, too_big_lem, no_sign, settles}

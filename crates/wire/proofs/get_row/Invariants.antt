@@ -1,15 +1,9 @@
 -- `wire::get_row` meets its contract: the numbers read stand before the places not reached. Assumes nothing.
-use mathlib.Core.Path.{◌≡◌, refl, sym, ◌∙◌}
+use mathlib.Core.Path.{◌≡◌}
 use mathlib.Core.List.{◌++◌}
 use Prim.Native.Nat.{◌*◌, ◌-◌, ◌≤◌}
-use native.Mathlib.Omega.{arith}
-use lib.ListN.{length, take, drop, length-set}
-use borrow.Author.Rules.{rules}
-use mir.Syntax.{w64}
-use mir.Val.{SFits}
-use mir.Facts.{to_z-of_z}
+use lib.ListN.{length, take, drop}
 use Rattle.rules.specs.Collector.{row_in}
-use Rattle.wire.proofs.Rows.{get_row_out, get_row_in, get_row_more}
 use Rattle.wire.proofs.get_row.Given as goal
 
 abbrev pub invariant-loop-k : goal.invariant-loop-k

@@ -1,5 +1,4 @@
 -- `wire::int` meets its contract: below 2^63 the number is its bits, and from there on -1 less the complement. Assumes nothing.
-use borrow.Author.Rules.{rules}
 use Rattle.wire.proofs.Complement.{as_int, from_fits, int_neg}
 use Rattle.wire.proofs.int.Goals as goal
 

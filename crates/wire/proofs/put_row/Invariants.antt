@@ -1,18 +1,9 @@
 -- `wire::put_row` meets its contract: the bytes of the numbers passed stand before what was there. Assumes nothing.
-use mathlib.Core.Path.{◌≡◌, refl, sym, ap, ◌∙◌}
+use mathlib.Core.Path.{◌≡◌}
 use mathlib.Core.List.{◌++◌}
 use Prim.Native.Nat.{◌*◌, ◌-◌, ◌≤◌}
-use native.Mathlib.Omega.{arith}
-use lib.ListN.{length, get_or, take, drop}
-use borrow.Author.Rules.{rules}
-use lib.IntN.{ℤ, pos}
-use mir.Syntax.{w64}
-use mir.Val.{SFits}
-use mir.Facts.{to_z-of_z}
-use Rattle.wire.specs.Run.{put_at}
+use lib.ListN.{length, take, drop}
 use Rattle.rules.specs.Collector.{row_bytes}
-use Rattle.wire.proofs.Rows.{row_put, put_row_out, put_row_none, put_row_in}
-use Rattle.wire.proofs.Run.{put_length}
 use Rattle.wire.proofs.put_row.Given as goal
 
 abbrev pub invariant-loop-k : goal.invariant-loop-k

@@ -1,7 +1,6 @@
 -- `decimal::align::divided` meets its contract: each way through it is a law of Quotient. Assumes nothing.
 use native.Mathlib.Nat.{div-le_self, mod-lt}
 use native.Mathlib.Omega.{arith}
-use borrow.Author.Rules.{rules}
 use Rattle.rules.proofs.Quotient.{half_up, less_off, cut_off}
 use Rattle.decimal.proofs.align.divided.Goals as goal
 

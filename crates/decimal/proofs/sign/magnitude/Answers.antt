@@ -1,5 +1,4 @@
 -- `decimal::sign::magnitude` meets its contract: what a number below zero leaves of -1 is one less than its magnitude, and fits. Assumes nothing.
-use borrow.Author.Rules.{rules}
 use mathlib.Core.Path.{◌≡◌}
 use mathlib.Core.Bool.{true, false}
 use Prim.Native.Nat.{ℕ, ◌+◌, ◌^◌, ◌<◌}

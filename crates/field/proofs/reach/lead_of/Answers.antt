@@ -5,7 +5,6 @@ use lib.ListN.{get_or}
 use Rattle.rules.specs.Roles.{is_nine, opens}
 use Rattle.rules.proofs.Search.{first_here, first_le, first_more}
 use borrow.Author.Rules.{rules}
-use Prim.Native.Nat.{◌-◌, ◌≤◌}
 use native.Mathlib.Omega.{arith}
 use Rattle.field.specs.Steps.{lead_to}
 use Rattle.field.proofs.reach.lead_of.Goals as goal

@@ -1,12 +1,5 @@
 -- `lead_of`: no digit or drifting symbol has been passed. Assumes nothing.
-use mathlib.Core.Path.{◌≡◌, sym, ◌∙◌}
-use mathlib.Core.Bool.{◌||◌}
-use lib.ListN.{get_or}
-use Rattle.rules.specs.Roles.{is_nine, opens}
-use Rattle.rules.proofs.Search.{first_here, first_le, first_more}
-use borrow.Author.Rules.{rules}
 use Prim.Native.Nat.{◌-◌, ◌≤◌}
-use native.Mathlib.Omega.{arith}
 use Rattle.field.specs.Steps.{lead_to}
 use Rattle.field.proofs.reach.lead_of.Given as goal
 

@@ -4,7 +4,6 @@ use lib.ListN.{get_or}
 use Rattle.rules.specs.Roles.{is_nine}
 use Rattle.rules.proofs.Search.{first_here, first_le, first_more}
 use borrow.Author.Rules.{rules}
-use Prim.Native.Nat.{◌-◌, ◌≤◌}
 use native.Mathlib.Omega.{arith}
 use Rattle.field.specs.Results.{nine_in}
 use Rattle.field.proofs.reach.reach_of.Goals as goal

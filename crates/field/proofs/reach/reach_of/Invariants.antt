@@ -1,11 +1,5 @@
 -- `reach_of`: no nine has been passed. Assumes nothing.
-use mathlib.Core.Path.{sym, ◌∙◌}
-use lib.ListN.{get_or}
-use Rattle.rules.specs.Roles.{is_nine}
-use Rattle.rules.proofs.Search.{first_here, first_le, first_more}
-use borrow.Author.Rules.{rules}
 use Prim.Native.Nat.{◌-◌, ◌≤◌}
-use native.Mathlib.Omega.{arith}
 use Rattle.field.specs.Results.{nine_in}
 use Rattle.field.proofs.reach.reach_of.Given as goal
 

@@ -4,7 +4,6 @@ use lib.Dec.{eqb}
 use Rattle.rules.specs.Roles.{is_nine}
 use Rattle.rules.proofs.Logic.{neither}
 use Rattle.field.proofs.Turns.{step_bare, step_mark}
-use borrow.Author.Rules.{rules}
 use Rattle.field.proofs.step.hide_step.Goals as goal
 
 pub returns-then-is_bare : goal.returns-then-is_bare

@@ -1,7 +1,6 @@
 -- `print_step`: each way through it is a law of Turns. Assumes nothing.
 use mathlib.Core.Path.{sym, ◌∙◌}
 use Rattle.field.proofs.Turns.{step_bare, step_mark, step_punched}
-use borrow.Author.Rules.{rules}
 use Rattle.field.proofs.step.print_step.Goals as goal
 
 pub returns-then-is_bare : goal.returns-then-is_bare

@@ -1,11 +1,8 @@
 -- `any_nine`: none stands behind position k. Assumes nothing.
-use borrow.Author.Rules.{rules}
 use mathlib.Core.Path.{◌≡◌, refl, sym, ◌∙◌}
 use mathlib.Core.Bool.{false}
-use Prim.Native.Nat.{◌≤◌}
 use native.Mathlib.Omega.{arith}
-use lib.ListN.{length, drop}
-use Rattle.rules.specs.Words.{any}
+use lib.ListN.{length}
 use Rattle.rules.specs.Roles.{is_nine}
 use Rattle.rules.proofs.Lists.{any_behind}
 use Rattle.field.proofs.Loops.{any_back, any_end}

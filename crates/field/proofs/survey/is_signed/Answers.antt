@@ -1,5 +1,4 @@
 -- `is_signed` is the definition. Assumes nothing.
-use borrow.Author.Rules.{rules}
 use mathlib.Core.Path.{sym, ◌∙◌}
 use mathlib.Core.Bool.{or-false, or-true}
 use Rattle.rules.specs.Words.{any}

@@ -1,11 +1,9 @@
 -- `survey_of`: what has been counted and what is left make the whole. Assumes nothing.
 use borrow.Author.Rules.{rules}
 use mathlib.Core.Path.{◌≡◌}
-use mathlib.Core.Bool.{◌||◌}
-use Prim.Native.Nat.{◌+◌, ◌-◌, ◌≤◌, ◌<◌}
+use Prim.Native.Nat.{◌-◌, ◌≤◌, ◌<◌}
 use native.Mathlib.Omega.{arith}
-use lib.ListN.{length, take, drop}
-use Rattle.rules.specs.Words.{any, count}
+use lib.ListN.{length}
 use Rattle.rules.specs.Roles.{is_digit, is_sign}
 use Rattle.field.specs.Steps.{survey_of}
 use Rattle.field.proofs.Loops.{any_end, any_more, left_end, left_more, right_end, right_more}

@@ -1,16 +1,15 @@
 -- `hide_down`: the positions from k on are written, and the drifting character waits until it is met. Assumes nothing.
 use borrow.Author.Rules.{rules}
 use mathlib.Core.Path.{◌≡◌, refl, ◌∙◌}
-use Prim.Native.Nat.{ℕ, ◌-◌, ◌≤◌}
+use Prim.Native.Nat.{◌-◌}
 use native.Mathlib.Omega.{arith}
-use lib.ListN.{length, get_or, length-set}
+use lib.ListN.{get_or, length-set}
 use Rattle.rules.specs.Roles.{is_b, is_nine}
 use Rattle.rules.specs.Form.{formed}
-use Rattle.rules.specs.Edit.{fill, suppressed}
-use Rattle.field.specs.Results.{left_at, nine_in}
+use Rattle.rules.specs.Edit.{suppressed}
+use Rattle.field.specs.Results.{nine_in}
 use Rattle.rules.proofs.Search.{first_none}
-use Rattle.field.specs.Steps.{Between}
-use Rattle.field.proofs.Turns.{Hiding, hide_start, hide_turn}
+use Rattle.field.proofs.Turns.{hide_start, hide_turn}
 use Rattle.field.proofs.writing.hide_down.Goals as goal
 
 pub loop-k-init : goal.loop-k-init

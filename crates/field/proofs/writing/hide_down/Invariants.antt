@@ -1,16 +1,12 @@
 -- `hide_down`: the positions from k on are written, and the drifting character waits until it is met. Assumes nothing.
-use borrow.Author.Rules.{rules}
-use mathlib.Core.Path.{◌≡◌, refl, ◌∙◌}
-use Prim.Native.Nat.{ℕ, ◌-◌, ◌≤◌}
-use native.Mathlib.Omega.{arith}
-use lib.ListN.{length, get_or, length-set}
-use Rattle.rules.specs.Roles.{is_b, is_nine}
+use mathlib.Core.Path.{◌≡◌}
+use Prim.Native.Nat.{ℕ, ◌≤◌}
+use lib.ListN.{length}
 use Rattle.rules.specs.Form.{formed}
-use Rattle.rules.specs.Edit.{fill, suppressed}
-use Rattle.field.specs.Results.{left_at, nine_in}
-use Rattle.rules.proofs.Search.{first_none}
+use Rattle.rules.specs.Edit.{fill}
+use Rattle.field.specs.Results.{left_at}
 use Rattle.field.specs.Steps.{Between}
-use Rattle.field.proofs.Turns.{Hiding, hide_start, hide_turn}
+use Rattle.field.proofs.Turns.{Hiding}
 use Rattle.field.proofs.writing.hide_down.Given as goal
 
 abbrev pub invariant-loop-k : goal.invariant-loop-k

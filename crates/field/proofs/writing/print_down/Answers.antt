@@ -1,12 +1,10 @@
 -- `print_down`: the positions from k on are written, and what is left of the magnitude has the digits before them. Assumes nothing.
 use borrow.Author.Rules.{rules}
 use mathlib.Core.Path.{◌≡◌, refl, sym, ◌∙◌}
-use Prim.Native.Nat.{ℕ, ◌-◌, ◌≤◌}
+use Prim.Native.Nat.{◌-◌}
 use native.Mathlib.Omega.{arith}
-use lib.ListN.{length, get_or, length-set}
-use lib.Seq.{sets}
-use Rattle.rules.specs.Search.{up_to}
-use Rattle.field.specs.Results.{left_at, printed_at}
+use lib.ListN.{get_or, length-set}
+use Rattle.field.specs.Results.{left_at}
 use Rattle.field.specs.Steps.{step_of}
 use Rattle.field.proofs.Bytes.{sets_less}
 use Rattle.field.proofs.Left.{left_all}

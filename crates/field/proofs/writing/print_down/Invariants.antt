@@ -1,16 +1,10 @@
 -- `print_down`: the positions from k on are written, and what is left of the magnitude has the digits before them. Assumes nothing.
-use borrow.Author.Rules.{rules}
-use mathlib.Core.Path.{◌≡◌, refl, sym, ◌∙◌}
-use Prim.Native.Nat.{ℕ, ◌-◌, ◌≤◌}
-use native.Mathlib.Omega.{arith}
-use lib.ListN.{length, get_or, length-set}
+use mathlib.Core.Path.{◌≡◌}
+use Prim.Native.Nat.{ℕ, ◌≤◌}
+use lib.ListN.{length}
 use lib.Seq.{sets}
 use Rattle.rules.specs.Search.{up_to}
 use Rattle.field.specs.Results.{left_at, printed_at}
-use Rattle.field.specs.Steps.{step_of}
-use Rattle.field.proofs.Bytes.{sets_less}
-use Rattle.field.proofs.Left.{left_all}
-use Rattle.field.proofs.Turns.{left_turn, print_turn}
 use Rattle.field.proofs.writing.print_down.Given as goal
 
 abbrev pub invariant-loop-k : goal.invariant-loop-k

@@ -1,10 +1,8 @@
 -- `put_blank`: the characters before position k are written. Assumes nothing.
 use borrow.Author.Rules.{rules}
 use mathlib.Core.Path.{◌≡◌, refl, sym}
-use Prim.Native.Nat.{◌-◌, ◌≤◌}
 use native.Mathlib.Omega.{arith}
 use lib.ListN.{length, get_or, length-set}
-use lib.Seq.{sets}
 use Rattle.rules.specs.Search.{up_to}
 use Rattle.rules.specs.Edit.{suppressed}
 use Rattle.field.proofs.Bytes.{sets_more}

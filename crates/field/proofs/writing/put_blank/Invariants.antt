@@ -1,13 +1,10 @@
 -- `put_blank`: the characters before position k are written. Assumes nothing.
-use borrow.Author.Rules.{rules}
-use mathlib.Core.Path.{◌≡◌, refl, sym}
+use mathlib.Core.Path.{◌≡◌}
 use Prim.Native.Nat.{◌-◌, ◌≤◌}
-use native.Mathlib.Omega.{arith}
-use lib.ListN.{length, get_or, length-set}
+use lib.ListN.{length, get_or}
 use lib.Seq.{sets}
 use Rattle.rules.specs.Search.{up_to}
 use Rattle.rules.specs.Edit.{suppressed}
-use Rattle.field.proofs.Bytes.{sets_more}
 use Rattle.field.proofs.writing.put_blank.Given as goal
 
 abbrev pub invariant-loop-k : goal.invariant-loop-k

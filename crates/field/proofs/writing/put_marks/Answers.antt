@@ -1,10 +1,8 @@
 -- `put_marks`: the characters before position k are written. Assumes nothing.
 use borrow.Author.Rules.{rules}
 use mathlib.Core.Path.{◌≡◌, refl, sym}
-use Prim.Native.Nat.{◌-◌, ◌≤◌}
 use native.Mathlib.Omega.{arith}
-use lib.ListN.{length, get_or, length-set}
-use lib.Seq.{sets}
+use lib.ListN.{get_or, length-set}
 use Rattle.rules.specs.Search.{up_to}
 use Rattle.roles.specs.Table.{mark_by}
 use Rattle.field.proofs.Bytes.{sets_more}

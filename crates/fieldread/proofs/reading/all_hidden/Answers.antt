@@ -1,11 +1,8 @@
 -- `all_hidden`: what is left to compare decides. Assumes nothing.
 use borrow.Author.Rules.{rules}
-use mathlib.Core.Path.{◌≡◌}
 use mathlib.Core.List.{List}
-use Prim.Native.Nat.{ℕ, ◌-◌, ◌≤◌}
-use lib.ListN.{get_or, length, drop}
-use Rattle.rules.specs.Words.{same}
-use Rattle.rules.specs.Search.{up_to}
+use Prim.Native.Nat.{ℕ}
+use lib.ListN.{get_or}
 use Rattle.rules.specs.Edit.{suppressed}
 use Rattle.field.proofs.Loops.{agree, agreed, differ}
 use Rattle.fieldread.proofs.reading.all_hidden.Goals as goal

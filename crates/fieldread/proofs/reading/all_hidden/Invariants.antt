@@ -1,5 +1,4 @@
 -- `all_hidden`: what is left to compare decides. Assumes nothing.
-use borrow.Author.Rules.{rules}
 use mathlib.Core.Path.{◌≡◌}
 use mathlib.Core.List.{List}
 use Prim.Native.Nat.{ℕ, ◌-◌, ◌≤◌}
@@ -7,7 +6,6 @@ use lib.ListN.{get_or, length, drop}
 use Rattle.rules.specs.Words.{same}
 use Rattle.rules.specs.Search.{up_to}
 use Rattle.rules.specs.Edit.{suppressed}
-use Rattle.field.proofs.Loops.{agree, agreed, differ}
 use Rattle.fieldread.proofs.reading.all_hidden.Given as goal
 
 abbrev shows : List ℕ → ℕ → ℕ → ℕ

@@ -1,10 +1,9 @@
 -- `is_many`: `spare` positions that are no digits have to stand before position k, or the digits are too many. Assumes nothing.
-use borrow.Author.Rules.{rules}
 use borrow.Author.Tests.{le-ltb, lt-ltb}
 use mathlib.Core.Path.{◌≡◌, sym}
-use Prim.Native.Nat.{◌+◌, ◌-◌, ◌≤◌, ◌<◌}
+use Prim.Native.Nat.{◌-◌, ◌≤◌}
 use native.Mathlib.Omega.{arith}
-use lib.ListN.{length, drop, take, drop_of_length-le, length-take}
+use lib.ListN.{length, take, drop_of_length-le, length-take}
 use Rattle.rules.specs.Words.{count}
 use Rattle.rules.specs.Roles.{is_digit}
 use Rattle.rules.specs.Shape.{most_digits}

@@ -1,15 +1,10 @@
 -- `is_many`: `spare` positions that are no digits have to stand before position k, or the digits are too many. Assumes nothing.
-use borrow.Author.Rules.{rules}
-use borrow.Author.Tests.{le-ltb, lt-ltb}
-use mathlib.Core.Path.{◌≡◌, sym}
+use mathlib.Core.Path.{◌≡◌}
 use Prim.Native.Nat.{◌+◌, ◌-◌, ◌≤◌, ◌<◌}
-use native.Mathlib.Omega.{arith}
-use lib.ListN.{length, drop, take, drop_of_length-le, length-take}
+use lib.ListN.{length, drop}
 use Rattle.rules.specs.Words.{count}
 use Rattle.rules.specs.Roles.{is_digit}
 use Rattle.rules.specs.Shape.{most_digits}
-use Rattle.rules.proofs.Lists.{count_le, count_split}
-use Rattle.field.proofs.Loops.{count_back}
 use Rattle.fieldread.proofs.reading.is_many.Given as goal
 
 abbrev pub invariant-loop-k : goal.invariant-loop-k

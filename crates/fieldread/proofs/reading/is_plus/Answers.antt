@@ -1,5 +1,4 @@
 -- `is_plus`: the cells, or all positions hidden where everything is suppressed. Assumes nothing.
-use borrow.Author.Rules.{rules}
 use mathlib.Core.Path.{◌≡◌, sym, ◌∙◌}
 use Rattle.rules.specs.Form.{formed}
 use Rattle.fieldread.proofs.Passing.{plus_blank, plus_nine, plus_some, sides_worth}

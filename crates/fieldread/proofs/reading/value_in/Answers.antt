@@ -1,5 +1,4 @@
 -- `value_in`: a field that `hide` refuses has no value; any other is compared. Assumes nothing.
-use borrow.Author.Rules.{rules}
 use borrow.Author.Tests.{not-false, not-true}
 use Rattle.fieldread.proofs.reading.value_in.Goals as goal
 

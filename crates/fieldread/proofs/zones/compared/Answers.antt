@@ -1,5 +1,4 @@
 -- `compared`: the rest prints, and the last character of the stretch that is no B's is the drifting one. Assumes nothing.
-use borrow.Author.Rules.{rules}
 use mathlib.Core.Path.{◌≡◌, ◌∙◌}
 use mathlib.Core.Bool.{true, false, ◌&&◌}
 use lib.Dec.{ltb}

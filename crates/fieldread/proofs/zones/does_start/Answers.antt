@@ -1,5 +1,4 @@
 -- `does_start`: V's place, a nine and a nonzero digit start printing, nothing else does. Assumes nothing.
-use borrow.Author.Rules.{rules}
 use borrow.Author.Tests.{le-leb, lt-leb}
 use mathlib.Core.Path.{sym, ◌∙◌}
 use Prim.Native.Nat.{◌<◌}

@@ -1,11 +1,10 @@
 -- `hidden_to`: as long as positions show what hidden ones do printing hasn't started. Assumes nothing.
 use borrow.Author.Rules.{rules}
-use mathlib.Core.Path.{◌≡◌, sym, ◌∙◌}
-use Prim.Native.Nat.{◌-◌, ◌≤◌, ◌<◌, min}
+use mathlib.Core.Path.{sym, ◌∙◌}
+use Prim.Native.Nat.{◌<◌}
 use native.Mathlib.Omega.{arith}
 use lib.ListN.{length}
 use Rattle.rules.specs.Form.{formed}
-use Rattle.fieldread.specs.Zones.{HiddenTo}
 use Rattle.fieldread.proofs.Passing.{hidden_first, hidden_on, start_least, start_nine}
 use Rattle.fieldread.proofs.zones.hidden_to.Goals as goal
 

@@ -1,12 +1,9 @@
 -- `hidden_to`: as long as positions show what hidden ones do printing hasn't started. Assumes nothing.
-use borrow.Author.Rules.{rules}
-use mathlib.Core.Path.{◌≡◌, sym, ◌∙◌}
-use Prim.Native.Nat.{◌-◌, ◌≤◌, ◌<◌, min}
-use native.Mathlib.Omega.{arith}
+use mathlib.Core.Path.{◌≡◌}
+use Prim.Native.Nat.{◌-◌, ◌≤◌, min}
 use lib.ListN.{length}
 use Rattle.rules.specs.Form.{formed}
 use Rattle.fieldread.specs.Zones.{HiddenTo}
-use Rattle.fieldread.proofs.Passing.{hidden_first, hidden_on, start_least, start_nine}
 use Rattle.fieldread.proofs.zones.hidden_to.Given as goal
 
 abbrev pub invariant-loop-k : goal.invariant-loop-k

@@ -1,6 +1,5 @@
 -- `hide`: what hidden positions show, and where a symbol drifts one character more with Bs behind it, up to where printing starts; else no value has the
 -- field. Assumes nothing.
-use borrow.Author.Rules.{rules}
 use borrow.Author.Tests.{leb-false, leb-true, not-true}
 use mathlib.Core.Path.{◌≡◌, sym, ◌∙◌}
 use mathlib.Core.Bool.{false, not, ◌&&◌}

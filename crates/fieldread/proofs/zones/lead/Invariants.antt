@@ -1,15 +1,10 @@
 -- `lead`: neither the opening nor the start has been passed, and what has been passed prints. Assumes nothing.
-use borrow.Author.Rules.{rules}
 use mathlib.Core.Path.{◌≡◌}
-use mathlib.Core.Bool.{false, ◌||◌}
-use Prim.Native.Nat.{◌-◌, ◌≤◌, ◌<◌, min}
-use native.Mathlib.Omega.{arith}
+use Prim.Native.Nat.{◌-◌, ◌≤◌, min}
 use lib.ListN.{length}
-use Rattle.rules.specs.Roles.{is_nine, opens}
-use Rattle.rules.specs.Form.{formed, role_at}
+use Rattle.rules.specs.Form.{formed}
 use Rattle.rules.specs.Edit.{opening}
 use Rattle.fieldread.specs.Zones.{said_at, start_in}
-use Rattle.fieldread.proofs.Passing.{lead_early, lead_here, lead_on, lead_out, lead_stop, no_digit, said_first, said_mark, start_least}
 use Rattle.fieldread.proofs.zones.lead.Given as goal
 
 abbrev pub invariant-loop-k : goal.invariant-loop-k

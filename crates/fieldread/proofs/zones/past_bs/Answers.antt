@@ -1,13 +1,11 @@
 -- `past_bs`: a B is no digit, so that printing hasn't started at one. Assumes nothing.
 use borrow.Author.Rules.{rules}
-use borrow.Author.Tests.{not-false, not-true}
-use mathlib.Core.Path.{◌≡◌, sym, ◌∙◌}
+use mathlib.Core.Path.{sym, ◌∙◌}
 use mathlib.Core.Bool.{true≢false}
-use Prim.Native.Nat.{◌-◌, ◌≤◌, ◌<◌, min}
+use Prim.Native.Nat.{◌<◌}
 use native.Mathlib.Omega.{arith}
 use lib.ListN.{length}
 use Rattle.rules.specs.Form.{formed}
-use Rattle.fieldread.specs.Zones.{BsBetween}
 use Rattle.fieldread.proofs.Passing.{start_least, bs_first, bs_on}
 use Rattle.fieldread.proofs.zones.past_bs.Goals as goal
 

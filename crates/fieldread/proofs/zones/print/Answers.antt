@@ -1,6 +1,5 @@
 -- `print`: a digit and a mark are the two ways of the definition; a digit shows its own where its character stands in the symbol's list. Assumes
 -- nothing.
-use borrow.Author.Rules.{rules}
 use mathlib.Core.Path.{sym, ◌∙◌}
 use mathlib.Core.Bool.{true, false}
 use Rattle.rules.specs.Edit.{printed}

@@ -1,5 +1,4 @@
 -- `print_digit` is the definition. Assumes nothing.
-use borrow.Author.Rules.{rules}
 use Rattle.fieldread.specs.Zones.{digit_step}
 use Rattle.fieldread.proofs.zones.print_digit.Goals as goal
 

@@ -1,5 +1,4 @@
 -- `print_mark` is the definition. Assumes nothing.
-use borrow.Author.Rules.{rules}
 use Rattle.fieldread.specs.Zones.{mark_step}
 use Rattle.fieldread.proofs.zones.print_mark.Goals as goal
 

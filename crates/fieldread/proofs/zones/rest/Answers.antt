@@ -1,14 +1,12 @@
 -- `rest`: printing has started, and each bare digit so far is one. Assumes nothing.
 use borrow.Author.Rules.{rules}
-use borrow.Author.Tests.{not-false, not-true}
 use mathlib.Core.Path.{◌≡◌, sym, ◌∙◌}
 use mathlib.Core.Bool.{true}
-use mathlib.Core.Logic.{⊎_elim}
-use Prim.Native.Nat.{◌+◌, ◌-◌, ◌≤◌, ◌<◌}
+use Prim.Native.Nat.{◌+◌, ◌<◌}
 use native.Mathlib.Omega.{arith}
 use lib.ListN.{length}
 use Rattle.rules.specs.Form.{formed}
-use Rattle.fieldread.specs.Zones.{fine_at, said_at, so_far, start_in}
+use Rattle.fieldread.specs.Zones.{fine_at, said_at, so_far}
 use Rattle.fieldread.proofs.Passing.{fine_digit, fine_first, fine_other, out_late, said_all, said_digit, said_none, said_other, said_small, start_least}
 use Rattle.fieldread.proofs.zones.rest.Goals as goal
 use Rattle.fieldread.proofs.zones.rest.Goals.{else-is_bare, then-is_bare+else-not-is_decimal}

@@ -1,15 +1,10 @@
 -- `rest`: printing has started, and each bare digit so far is one. Assumes nothing.
-use borrow.Author.Rules.{rules}
-use borrow.Author.Tests.{not-false, not-true}
-use mathlib.Core.Path.{◌≡◌, sym, ◌∙◌}
+use mathlib.Core.Path.{◌≡◌}
 use mathlib.Core.Bool.{true}
-use mathlib.Core.Logic.{⊎_elim}
-use Prim.Native.Nat.{◌+◌, ◌-◌, ◌≤◌, ◌<◌}
-use native.Mathlib.Omega.{arith}
+use Prim.Native.Nat.{◌-◌, ◌≤◌}
 use lib.ListN.{length}
 use Rattle.rules.specs.Form.{formed}
 use Rattle.fieldread.specs.Zones.{fine_at, said_at, so_far, start_in}
-use Rattle.fieldread.proofs.Passing.{fine_digit, fine_first, fine_other, out_late, said_all, said_digit, said_none, said_other, said_small, start_least}
 use Rattle.fieldread.proofs.zones.rest.Given as goal
 
 abbrev pub invariant-loop-k : goal.invariant-loop-k

@@ -1,10 +1,6 @@
 -- `layout::cutting::count_fits` meets its contract, by the laws of `Counting`. Assumes nothing.
-use mathlib.Core.Logic.{⊎_elim}
-use borrow.Author.Rules.{rules}
-use Prim.Native.Nat.{◌-◌}
-use lib.ListN.{length}
 use borrow.Author.Tests.{eq-eqb, ne_eqb}
-use Rattle.layout.proofs.Ends.{Counting, counting_first, counting_end, counting_other, counted, too_long}
+use Rattle.layout.proofs.Ends.{counting_first, counting_end, counting_other, counted, too_long}
 use Rattle.layout.proofs.cutting.count_fits.Goals as goal
 use Rattle.layout.proofs.cutting.count_fits.Goals.{else-closed, then-closed}
 

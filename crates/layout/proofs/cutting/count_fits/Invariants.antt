@@ -1,9 +1,7 @@
 -- `layout::cutting::count_fits` meets its contract, by the laws of `Counting`. Assumes nothing.
-use mathlib.Core.Logic.{⊎_elim}
-use borrow.Author.Rules.{rules}
 use Prim.Native.Nat.{◌-◌}
 use lib.ListN.{length}
-use Rattle.layout.proofs.Ends.{Counting, counting_first, counting_end, counting_other, counted, too_long}
+use Rattle.layout.proofs.Ends.{Counting}
 use Rattle.layout.proofs.cutting.count_fits.Given as goal
 
 abbrev pub invariant-loop-i : goal.invariant-loop-i

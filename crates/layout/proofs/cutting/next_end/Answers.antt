@@ -1,8 +1,5 @@
 -- `layout::cutting::next_end` meets its contract, by the laws of `Seek`. Assumes nothing.
-use borrow.Author.Rules.{rules}
-use Prim.Native.Nat.{◌-◌}
-use lib.ListN.{length}
-use Rattle.layout.proofs.Ends.{Seek, seek_first, seek_more, seek_hit, seek_none}
+use Rattle.layout.proofs.Ends.{seek_first, seek_more, seek_hit, seek_none}
 use Rattle.layout.proofs.cutting.next_end.Goals as goal
 
 pub loop-end-init : goal.loop-end-init

@@ -1,8 +1,7 @@
 -- `layout::cutting::next_end` meets its contract, by the laws of `Seek`. Assumes nothing.
-use borrow.Author.Rules.{rules}
 use Prim.Native.Nat.{◌-◌}
 use lib.ListN.{length}
-use Rattle.layout.proofs.Ends.{Seek, seek_first, seek_more, seek_hit, seek_none}
+use Rattle.layout.proofs.Ends.{Seek}
 use Rattle.layout.proofs.cutting.next_end.Given as goal
 
 abbrev pub invariant-loop-end : goal.invariant-loop-end

@@ -1,9 +1,8 @@
 -- `layout::measuring::measure` meets its contract, by the laws of `Measuring`. Assumes nothing.
 use borrow.Author.Rules.{rules}
-use Prim.Native.Nat.{◌+◌, ◌-◌, ◌≤◌}
+use Prim.Native.Nat.{◌+◌, ◌≤◌}
 use native.Mathlib.Omega.{arith}
-use lib.ListN.{length}
-use Rattle.layout.proofs.Measures.{Measuring, measuring_first, few_next, measuring_stops, size_small, measuring_more, measuring_done}
+use Rattle.layout.proofs.Measures.{measuring_first, few_next, measuring_stops, size_small, measuring_more, measuring_done}
 use Rattle.layout.proofs.measuring.measure.Goals as goal
 use Rattle.layout.proofs.measuring.measure.Goals.{In-loop-end}
 

@@ -1,9 +1,7 @@
 -- `layout::writing::put_forms` meets its contract, by the laws of `Putting`. Assumes nothing.
-use borrow.Author.Rules.{rules}
 use Prim.Native.Nat.{◌-◌}
-use native.Mathlib.Omega.{arith}
 use lib.ListN.{length}
-use Rattle.layout.proofs.Puts.{Putting, putting_first, next_accepted, next_fits, putting_more, putting_done}
+use Rattle.layout.proofs.Puts.{Putting}
 use Rattle.layout.proofs.writing.put_forms.Given as goal
 
 abbrev pub invariant-loop-end : goal.invariant-loop-end

@@ -1,6 +1,5 @@
 -- `layout::writing::write` meets its contract: the two counts stand apart from the forms. Assumes nothing.
 use mathlib.Core.Path.{refl, ap, ◌∙◌}
-use borrow.Author.Rules.{rules}
 use native.Mathlib.Omega.{arith}
 use lib.ListN.{length, length-set}
 use lib.Seq.{length-sets}

@@ -1,7 +1,6 @@
 -- `picture::editing::edit_judged` meets its contract: the verdict's number, then the scale, then all that the form refuses. Assumes nothing.
 use mathlib.Core.Path.{◌∙◌}
 use native.Mathlib.Omega.{arith}
-use borrow.Author.Rules.{rules}
 use mir.Facts.{to_z-of_z}
 use Rattle.picture.proofs.EditWays.{judged_refused, scale_refused, by_form}
 use Rattle.picture.proofs.editing.edit_judged.Goals as goal

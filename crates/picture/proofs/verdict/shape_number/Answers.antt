@@ -1,7 +1,6 @@
 -- `picture::verdict::shape_number` meets its contract: each way through it is a law of Judging. Assumes nothing.
 use mathlib.Core.Path.{◌≡◌, sym, ◌∙◌}
 use borrow.Author.Rules.{rules}
-use borrow.Author.Tests.{not-true, not-false}
 use mathlib.Core.Bool.{true, ◌&&◌}
 use Prim.Native.Nat.{◌≤◌}
 use lib.ListN.{length}

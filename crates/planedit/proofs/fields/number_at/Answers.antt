@@ -1,5 +1,4 @@
 -- `planedit::fields::number_at` meets its contract: the part that is lent has the roles of the field's form. Assumes nothing.
-use borrow.Author.Rules.{rules}
 use Prim.Native.Nat.{◌+◌, ◌*◌}
 use native.Mathlib.Omega.{arith}
 use mir.Facts.{to_z-of_z}

@@ -1,5 +1,4 @@
 -- `planedit::fields::put_at` meets its contract: a value that the field takes has its own sign and magnitude there. Assumes nothing.
-use borrow.Author.Rules.{rules}
 use mathlib.Core.Path.{refl, sym, ◌∙◌, ap}
 use Prim.Native.Nat.{◌+◌, ◌*◌}
 use native.Mathlib.Omega.{arith}

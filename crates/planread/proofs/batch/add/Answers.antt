@@ -1,8 +1,6 @@
 -- `planread::batch::add` meets its contract: bytes that are no plan are refused, and by a plan the outcome is that of its forms. Assumes nothing.
 use mathlib.Core.Path.{sym, ◌∙◌}
 use mathlib.Core.Bool.{true≢false}
-use borrow.Author.Rules.{rules}
-use borrow.Author.Tests.{not-true, not-false}
 use Rattle.rules.proofs.Outcomes.{by_plan_lem}
 use Rattle.planread.proofs.Additions.{placed_is}
 use Rattle.planread.proofs.batch.add.Goals as goal

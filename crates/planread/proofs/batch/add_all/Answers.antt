@@ -1,8 +1,6 @@
 -- `planread::batch::add_all` meets its contract: by bytes that are no plan the adding stops at once, and behind a plan that is judged the records are
 -- added. Assumes nothing.
 use mathlib.Core.Path.{sym, ◌∙◌}
-use borrow.Author.Rules.{rules}
-use borrow.Author.Tests.{not-true, not-false}
 use Rattle.planread.proofs.Additions.{no_batch}
 use Rattle.planread.proofs.batch.add_all.Goals as goal
 

@@ -1,15 +1,13 @@
 -- `planread::batch::added_all` meets its contract: whatever the rest of the batch gives from here is what the whole gives. The place grows with every
 -- record, up to the batch's length. Assumes nothing.
-use Prim.Native.Nat.{◌+◌, ◌-◌, ◌≤◌}
+use Prim.Native.Nat.{◌+◌, ◌≤◌}
 use mathlib.Core.Path.{◌≡◌, sym, ◌∙◌}
 use native.Mathlib.Omega.{arith}
 use borrow.Author.Rules.{rules}
-use borrow.Author.Tests.{not-true, not-false}
 use lib.ListN.{length}
-use Rattle.totals.specs.declared.Batched.{Batched}
 use Rattle.totals.specs.declared.Next.TheVariants.{Record}
 use Rattle.totals.specs.Batch.{next_at}
-use Rattle.totals.specs.History.{Along, onward, stopped}
+use Rattle.totals.specs.History.{onward, stopped}
 use Rattle.totals.proofs.Whole.{nearer}
 use Rattle.planread.proofs.Additions.{next_is, on_record, placed_is}
 use Rattle.planread.proofs.batch.added_all.Goals as goal

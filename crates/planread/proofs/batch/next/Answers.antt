@@ -1,7 +1,5 @@
 -- `planread::batch::next` meets its contract: bytes that are no plan are refused, and by a plan the place decides. Assumes nothing.
 use mathlib.Core.Path.{sym, ◌∙◌}
-use borrow.Author.Rules.{rules}
-use borrow.Author.Tests.{not-true, not-false}
 use Rattle.planread.proofs.Additions.{next_is, next_none}
 use Rattle.planread.proofs.batch.next.Goals as goal
 

@@ -2,7 +2,6 @@
 use mathlib.Core.Path.{◌≡◌, sym}
 use mathlib.Core.Bool.{true}
 use native.Mathlib.Omega.{arith}
-use borrow.Author.Rules.{rules}
 use Rattle.totals.specs.Batch.{placed}
 use Rattle.totals.proofs.Places.{beyond, next_end, next_is, next_refused, no_start, none_left, not_whole, too_long, well_placed}
 use Rattle.planread.proofs.batch.next_of.Goals as goal

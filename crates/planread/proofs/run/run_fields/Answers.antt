@@ -1,15 +1,15 @@
 -- `planread::run::run_fields` meets its contract: each turn, the stop and the end are laws of Turns. A plan has at most 32 fields and is longer
 -- than its headers, which bounds every index. Assumes nothing.
-use mathlib.Core.Path.{◌≡◌, refl}
+use mathlib.Core.Path.{refl}
 use borrow.Author.Rules.{rules}
-use Prim.Native.Nat.{◌+◌, ◌-◌, ◌*◌, ◌≤◌}
+use Prim.Native.Nat.{◌+◌, ◌*◌, ◌≤◌}
 use native.Mathlib.Omega.{arith}
 use mir.Syntax.{w64}
 use mir.Val.{SFits}
 use mir.Facts.{to_z-of_z}
 use lib.ListN.{length}
-use Rattle.rules.proofs.PlanWalk.{field_count, plan_parts, width_at}
-use Rattle.planread.proofs.Turns.{Onward, starts, ends, part_fits, stops, goes_on_lem}
+use Rattle.rules.proofs.PlanWalk.{plan_parts, width_at}
+use Rattle.planread.proofs.Turns.{starts, ends, part_fits, stops, goes_on_lem}
 use Rattle.planread.proofs.run.run_fields.Goals as goal
 use Rattle.planread.proofs.run.run_fields.Goals.{In-loop-i}
 

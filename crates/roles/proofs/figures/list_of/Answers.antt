@@ -1,5 +1,4 @@
 -- `list_of`: each arm is the definition's, by the sign. Assumes nothing.
-use borrow.Author.Rules.{rules}
 use native.Mathlib.Omega.{arith}
 use borrow.Author.Tests.{ne_eqb}
 use Rattle.rules.specs.Edit.{list_of}

@@ -1,9 +1,8 @@
 -- `mark_of`: each arm is a column of the table of marks, and past the table there is nothing. Assumes nothing.
-use borrow.Author.Rules.{rules}
 use mathlib.Core.Path.{refl}
 use native.Mathlib.Omega.{arith}
 use Rattle.rules.specs.Edit.{mark}
-use Rattle.roles.proofs.Columns.{column, no_column, no_mark, one_mark, past}
+use Rattle.roles.proofs.Columns.{column, no_column, no_mark, one_mark}
 use Rattle.roles.proofs.marks.mark_of.Goals as goal
 
 pub returns-in-3 : goal.returns-in-3

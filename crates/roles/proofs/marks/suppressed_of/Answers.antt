@@ -1,5 +1,4 @@
 -- `suppressed_of`: where the fill is a blank, B and every other role show one. Assumes nothing.
-use borrow.Author.Rules.{rules}
 use borrow.Author.Tests.{eq-eqb, ne_eqb}
 use Rattle.rules.specs.Roles.{is_b}
 use Rattle.rules.specs.Edit.{fill, suppressed}

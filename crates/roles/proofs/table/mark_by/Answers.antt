@@ -1,6 +1,5 @@
 -- `mark_by` is the definition: the row is that of the sign. Assumes nothing.
 use borrow.Author.Rules.{rules}
-use mathlib.Core.Logic.{⊎_elim}
 use borrow.Author.Tests.{lt-ltb}
 use Rattle.rules.proofs.Decide.{decide}
 use Rattle.roles.specs.Table.{mark_by}

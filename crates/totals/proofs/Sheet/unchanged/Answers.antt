@@ -1,5 +1,4 @@
 -- `totals::Sheet::unchanged` meets its contract: the answer is the one that `answer` makes. Assumes nothing.
-use borrow.Author.Rules.{rules}
 use Rattle.totals.proofs.Sheet.unchanged.Goals as goal
 
 pub returns : goal.returns

@@ -1,14 +1,13 @@
 -- `totals::Sheet::with_row` meets its contract: after i turns each column has the first i values over it. Assumes nothing.
 use mathlib.Core.Path.{◌≡◌, refl}
-use Prim.Native.Nat.{◌-◌, ◌<◌, ◌≤◌}
+use Prim.Native.Nat.{◌<◌}
 use native.Mathlib.Omega.{arith}
 use borrow.Author.Rules.{rules}
-use lib.Dec.{eqb}
 use mir.Syntax.{w64}
 use mir.Val.{SFits}
 use mir.Facts.{to_z-of_z}
 use lib.IntN.{pos, ◌+ℤ◌}
-use lib.ListN.{length, get_or, take}
+use lib.ListN.{length, get_or}
 use Rattle.totals.specs.Totals.{greater, lesser, over, with_row}
 use Rattle.totals.proofs.Columns.{over_behind, over_turn}
 use Rattle.totals.proofs.Sheet.with_row.Goals as goal

@@ -1,16 +1,10 @@
 -- `totals::Sheet::with_row` meets its contract: after i turns each column has the first i values over it. Assumes nothing.
-use mathlib.Core.Path.{◌≡◌, refl}
-use Prim.Native.Nat.{◌-◌, ◌<◌, ◌≤◌}
-use native.Mathlib.Omega.{arith}
-use borrow.Author.Rules.{rules}
+use mathlib.Core.Path.{◌≡◌}
+use Prim.Native.Nat.{◌-◌, ◌≤◌}
 use lib.Dec.{eqb}
-use mir.Syntax.{w64}
-use mir.Val.{SFits}
-use mir.Facts.{to_z-of_z}
-use lib.IntN.{pos, ◌+ℤ◌}
-use lib.ListN.{length, get_or, take}
-use Rattle.totals.specs.Totals.{greater, lesser, over, with_row}
-use Rattle.totals.proofs.Columns.{over_behind, over_turn}
+use lib.IntN.{◌+ℤ◌}
+use lib.ListN.{take}
+use Rattle.totals.specs.Totals.{greater, lesser, over}
 use Rattle.totals.proofs.Sheet.with_row.Given as goal
 
 abbrev pub invariant-loop-i : goal.invariant-loop-i

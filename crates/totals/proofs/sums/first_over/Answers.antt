@@ -1,14 +1,11 @@
 -- `totals::sums::first_over` meets its contract: no place before i is refused. Assumes nothing.
-use mathlib.Core.Path.{◌≡◌, sym, ◌∙◌}
-use Prim.Native.Nat.{ℕ, ◌-◌, ◌<◌, ◌≤◌}
+use mathlib.Core.Path.{sym, ◌∙◌}
 use borrow.Author.Rules.{rules}
-use borrow.Author.Tests.{not-true, not-false}
 use mir.Syntax.{w64}
 use mir.Val.{SFits}
 use mir.Facts.{to_z-of_z}
 use lib.IntN.{pos}
-use lib.ListN.{get_or, take}
-use Rattle.totals.specs.Totals.{place_numbers}
+use lib.ListN.{get_or}
 use Rattle.totals.proofs.Columns.{all_fit, fits_here, over_here}
 use Rattle.totals.proofs.sums.first_over.Goals as goal
 

@@ -1,9 +1,8 @@
 -- `digits_in`: what has been counted are the digits before position k. Assumes nothing.
 use borrow.Author.Rules.{rules}
-use mathlib.Core.Path.{◌≡◌}
-use Prim.Native.Nat.{◌-◌, ◌≤◌, ◌<◌}
+use Prim.Native.Nat.{◌<◌}
 use native.Mathlib.Omega.{arith}
-use lib.ListN.{length, take}
+use lib.ListN.{length}
 use lib.Seq.{take_all}
 use Rattle.rules.specs.Words.{count}
 use Rattle.rules.specs.Roles.{is_digit}

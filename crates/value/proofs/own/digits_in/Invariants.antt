@@ -1,13 +1,9 @@
 -- `digits_in`: what has been counted are the digits before position k. Assumes nothing.
-use borrow.Author.Rules.{rules}
 use mathlib.Core.Path.{◌≡◌}
-use Prim.Native.Nat.{◌-◌, ◌≤◌, ◌<◌}
-use native.Mathlib.Omega.{arith}
+use Prim.Native.Nat.{◌-◌, ◌≤◌}
 use lib.ListN.{length, take}
-use lib.Seq.{take_all}
 use Rattle.rules.specs.Words.{count}
 use Rattle.rules.specs.Roles.{is_digit}
-use Rattle.field.proofs.Loops.{count_next}
 use Rattle.value.proofs.own.digits_in.Given as goal
 
 abbrev pub invariant-loop-k : goal.invariant-loop-k
