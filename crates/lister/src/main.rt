@@ -2,6 +2,8 @@
 // proved of the library `listing`; here the input is read and taken apart, and each line printed as soon as it is written. Each function
 // that lists has gone through all lines that the listing has, and answers how many; that each is printed, once and in order, is left to
 // the comparison. Where a line can't be written, those behind it are gone through and not printed.
+#![tactic(auto)]
+
 mod saying; // saying.rt: what is said on standard error
 
 ghost use Rattle.std.specs.Prelude.{◌≡◌, true, ◌+◌, ◌≤◌, ◌<◌, length, take};
@@ -23,11 +25,12 @@ pub(crate) struct Course {
 
 // Prints line k of the input's listing where all before it have been written, and answers whether it has been too. Nothing is printed
 // but here.
-fn print_line(whole: bool, k: usize, input: &[u8], text: &[u8]) -> bool
+fn print_line(rt: &HostRuntime, whole: bool, k: usize, input: &[u8], text: &[u8]) -> bool
     requires { ListingLine input.now k text.now }
     ensures { result ≡ true → whole ≡ true }
 {
     moving::write(
+        rt,
         whole,
         text,
         b"list: writing the listing failed, it is not whole",
@@ -37,6 +40,7 @@ fn print_line(whole: bool, k: usize, input: &[u8], text: &[u8]) -> bool
 // The records, from byte `from` of the input on, where line 1 begins. `record` is the one record that the lister keeps; `printed` says whether
 // the layout's line was written.
 fn list_records(
+    rt: &HostRuntime,
     input: &[u8],
     from: usize,
     plan: &[u8],
@@ -61,7 +65,7 @@ fn list_records(
         k += 1;
         let end = listing::line_end(input, at);
         let n = listing::kept_line(k, plan, &input[at..end], record, out);
-        whole = print_line(whole, k, input, &out[..n]);
+        whole = print_line(rt, whole, k, input, &out[..n]);
         refused += remarks::refusals_in(&out[..n]);
         returns += remarks::ends_in(&input[at..end], b'\r');
         at = end + 1;
@@ -75,47 +79,54 @@ fn list_records(
 }
 
 // The layout line, which is empty where the input is, and behind an accepted layout the records.
-fn list(input: &[u8], plan: &mut [u8], record: &mut [u8], out: &mut [u8]) -> usize
+fn list(rt: &HostRuntime, input: &[u8], plan: &mut [u8], record: &mut [u8], out: &mut [u8]) -> usize
     requires input { length input.now ≤ most_input }
     requires rooms { (most_plan ≤ length plan.old) × (length «record».old ≡ most_record) × (most_line ≤ length out.old) }
     ensures { result ≡ line_count input.now }
 {
     let end = listing::line_end(input, 0);
     let listed = listing::layout_line(&input[..end], plan, out);
-    let whole = print_line(true, 0, input, &out[..listed.line]);
+    let whole = print_line(rt, true, 0, input, &out[..listed.line]);
     if listed.plan == 0 {
-        saying::layout_refused(whole, &input[..end]);
+        saying::layout_refused(rt, whole, &input[..end]);
         return 1;
     }
-    let course = list_records(input, end + 1, &plan[..listed.plan], record, out, whole);
+    let course = list_records(rt, input, end + 1, &plan[..listed.plan], record, out, whole);
     let lines = course.records + 1;
-    saying::sum_up(input, course);
+    saying::sum_up(rt, input, course);
     lines
 }
 
 // What has been read, the first n bytes of `input`. That has a byte more than the limit, so an input over the limit is noticed.
-fn list_read(input: &[u8], n: usize, plan: &mut [u8], record: &mut [u8], out: &mut [u8]) -> usize
+fn list_read(
+    rt: &HostRuntime,
+    input: &[u8],
+    n: usize,
+    plan: &mut [u8],
+    record: &mut [u8],
+    out: &mut [u8],
+) -> usize
     requires input { (most_input < length input.now) × (n ≤ length input.now) }
     requires rooms { (most_plan ≤ length plan.old) × («record».old ≡ cleared) × (most_line ≤ length out.old) }
     ensures { result ≡ line_count (take n input.now) }
 {
     if listing::is_over(n) {
         let over = listing::over_line(out);
-        let whole = print_line(true, 0, &input[..n], &out[..over]);
-        saying::over_limit(whole, &input[..n]);
+        let whole = print_line(rt, true, 0, &input[..n], &out[..over]);
+        saying::over_limit(rt, whole, &input[..n]);
         return 1;
     }
-    list(&input[..n], plan, record, out)
+    list(rt, &input[..n], plan, record, out)
 }
 
 // An input that could not be read to its end is not listed.
-fn main() {
+fn main(rt: HostRuntime) {
     let mut input = [0u8; INPUT];
     let mut plan = [0u8; PLAN];
     let mut record = [0u8; RECORD];
     let mut out = [0u8; LINE];
-    let got = moving::read(&mut input, b"list: reading the input failed");
+    let got = moving::read(&rt, &mut input, b"list: reading the input failed");
     if got.whole {
-        list_read(&input, got.count, &mut plan, &mut record, &mut out);
+        list_read(&rt, &input, got.count, &mut plan, &mut record, &mut out);
     }
 }

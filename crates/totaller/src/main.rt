@@ -2,6 +2,8 @@
 // proved of the library `listing`; here the input is read and taken apart, the records added, and each line printed as soon as it is written.
 // That each is printed, once and in order, is left to the comparison. Where a line can't be written, those behind it are gone through and not
 // printed.
+#![tactic(auto)]
+
 mod saying; // saying.rt: what is said on standard error
 
 ghost use Rattle.std.specs.Prelude.{◌≡◌, true, ◌+◌, ◌≤◌, ◌<◌, length, drop};
@@ -26,11 +28,12 @@ pub(crate) struct Course {
 }
 
 // Prints a line of the input's total where all before it have been written, and answers whether it has been too. Nothing is printed but here.
-fn print_line(whole: bool, input: &[u8], text: &[u8]) -> bool
+fn print_line(rt: &HostRuntime, whole: bool, input: &[u8], text: &[u8]) -> bool
     requires { TotalLine input.now text.now }
     ensures { result ≡ true → whole ≡ true }
 {
     moving::write(
+        rt,
         whole,
         text,
         b"total: writing the totals failed, they are not whole",
@@ -52,6 +55,7 @@ fn limit_of(number: u8) -> u8
 
 // The next record, from byte `at` up to `end`, added. It is printed where it is refused.
 fn add_next(
+    rt: &HostRuntime,
     input: &[u8],
     at: usize,
     end: usize,
@@ -83,7 +87,7 @@ fn add_next(
             whole: course.whole,
         };
     }
-    let whole = print_line(course.whole, input, &out[..entered.line]);
+    let whole = print_line(rt, course.whole, input, &out[..entered.line]);
     Course {
         records: k,
         refused: course.refused + 1,
@@ -96,7 +100,14 @@ fn add_next(
 
 // The records, from byte `from` of the input on, where line 1 begins, up to the last or to one that meets a limit. `printed` says whether the
 // layout's line was written.
-fn add_records(input: &[u8], from: usize, plan: &[u8], out: &mut [u8], printed: bool) -> Course
+fn add_records(
+    rt: &HostRuntime,
+    input: &[u8],
+    from: usize,
+    plan: &[u8],
+    out: &mut [u8],
+    printed: bool,
+) -> Course
     requires input { (length input.now ≤ most_input) × Begins input.now 1 from }
     requires plan { HasPlan (layout_in input.now) plan.now }
     requires room { most_line ≤ length out.old }
@@ -114,7 +125,7 @@ fn add_records(input: &[u8], from: usize, plan: &[u8], out: &mut [u8], printed: 
     };
     while at < input.len() {
         let end = listing::line_end(input, at);
-        course = add_next(input, at, end, plan, out, course);
+        course = add_next(rt, input, at, end, plan, out, course);
         if course.stop != 0 {
             return course;
         }
@@ -124,7 +135,7 @@ fn add_records(input: &[u8], from: usize, plan: &[u8], out: &mut [u8], printed: 
 }
 
 // The count of the records added, and a line for each of the layout's fields, whose number is the plan's first byte.
-fn print_totals(input: &[u8], plan: &[u8], out: &mut [u8], course: Course) -> bool
+fn print_totals(rt: &HostRuntime, input: &[u8], plan: &[u8], out: &mut [u8], course: Course) -> bool
     requires plan { HasPlan (layout_in input.now) plan.now }
     requires room { most_line ≤ length out.old }
     requires course { Totalled input.now course.records course.refused course.stop course.sheet }
@@ -133,52 +144,52 @@ fn print_totals(input: &[u8], plan: &[u8], out: &mut [u8], course: Course) -> bo
     let fields = plan[0] as usize;
     let sheet = course.sheet;
     let n = count_line(sheet.count, out);
-    let mut whole = print_line(course.whole, input, &out[..n]);
+    let mut whole = print_line(rt, course.whole, input, &out[..n]);
     for i in 0..fields {
         let n = field_line(sheet, i, out);
-        whole = print_line(whole, input, &out[..n]);
+        whole = print_line(rt, whole, input, &out[..n]);
     }
     whole
 }
 
 // The layout line, which is empty where the input is, and behind an accepted layout the records and their totals.
-fn total(input: &[u8], plan: &mut [u8], out: &mut [u8])
+fn total(rt: &HostRuntime, input: &[u8], plan: &mut [u8], out: &mut [u8])
     requires input { length input.now ≤ most_input }
     requires rooms { (most_plan ≤ length plan.old) × (most_line ≤ length out.old) }
 {
     let end = listing::line_end(input, 0);
     let listed = listing::layout_line(&input[..end], plan, out);
-    let whole = print_line(true, input, &out[..listed.line]);
+    let whole = print_line(rt, true, input, &out[..listed.line]);
     if listed.plan == 0 {
-        saying::layout_refused(whole, &input[..end]);
+        saying::layout_refused(rt, whole, &input[..end]);
         return;
     }
-    let course = add_records(input, end + 1, &plan[..listed.plan], out, whole);
-    let all = print_totals(input, &plan[..listed.plan], out, course);
-    saying::sum_up(all, input, course);
+    let course = add_records(rt, input, end + 1, &plan[..listed.plan], out, whole);
+    let all = print_totals(rt, input, &plan[..listed.plan], out, course);
+    saying::sum_up(rt, all, input, course);
 }
 
 // What has been read, the first n bytes of `input`. That has a byte more than the limit, so an input over the limit is noticed.
-fn total_read(input: &[u8], n: usize, plan: &mut [u8], out: &mut [u8])
+fn total_read(rt: &HostRuntime, input: &[u8], n: usize, plan: &mut [u8], out: &mut [u8])
     requires input { (most_input < length input.now) × (n ≤ length input.now) }
     requires rooms { (most_plan ≤ length plan.old) × (most_line ≤ length out.old) }
 {
     if listing::is_over(n) {
         let over = listing::over_line(out);
-        let whole = print_line(true, &input[..n], &out[..over]);
-        saying::over_limit(whole, &input[..n]);
+        let whole = print_line(rt, true, &input[..n], &out[..over]);
+        saying::over_limit(rt, whole, &input[..n]);
         return;
     }
-    total(&input[..n], plan, out);
+    total(rt, &input[..n], plan, out);
 }
 
 // An input that could not be read to its end is not added up.
-fn main() {
+fn main(rt: HostRuntime) {
     let mut input = [0u8; INPUT];
     let mut plan = [0u8; PLAN];
     let mut out = [0u8; LINE];
-    let got = moving::read(&mut input, b"total: reading the input failed");
+    let got = moving::read(&rt, &mut input, b"total: reading the input failed");
     if got.whole {
-        total_read(&input, got.count, &mut plan, &mut out);
+        total_read(&rt, &input, got.count, &mut plan, &mut out);
     }
 }

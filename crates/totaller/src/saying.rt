@@ -6,16 +6,16 @@ ghost use Rattle.listing.specs.TotalProgram.{limit_of, Totalled};
 
 use super::Course;
 
-fn say(text: &[u8]) {
-    io::write_all(libc::STDERR_FILENO, text);
+fn say(rt: &HostRuntime, text: &[u8]) {
+    moving::say(rt, text);
 }
 
-fn say_number(n: usize) {
-    io::print_decimal(libc::STDERR_FILENO, n as u64);
+fn say_number(rt: &HostRuntime, n: usize) {
+    let _ = rt.eprint(n);
 }
 
 // A refused layout.
-pub(crate) fn layout_refused(whole: bool, layout: &[u8])
+pub(crate) fn layout_refused(rt: &HostRuntime, whole: bool, layout: &[u8])
     requires { accepted layout.now ≡ false }
 {
     if !whole {
@@ -23,48 +23,56 @@ pub(crate) fn layout_refused(whole: bool, layout: &[u8])
     }
     if remarks::is_marked(layout) {
         say(
+            rt,
             b"total: hint: the layout line begins with a byte-order mark; tail -c +4 FILE | ./total - totals the file without it\n",
         );
     }
     if remarks::ends_in(layout, b'\r') != 0 {
         say(
+            rt,
             b"total: hint: the layout line ends in a carriage return; tr -d '\\r' <FILE | ./total - totals the file without them\n",
         );
     }
     if remarks::ends_in(layout, b' ') != 0 {
-        say(b"total: hint: the layout line ends in a blank; end it with the last ;\n");
+        say(
+            rt,
+            b"total: hint: the layout line ends in a blank; end it with the last ;\n",
+        );
     }
-    say(b"total: the layout is refused, nothing is added\n");
+    say(rt, b"total: the layout is refused, nothing is added\n");
 }
 
 // An input over the limit.
-pub(crate) fn over_limit(whole: bool, input: &[u8])
+pub(crate) fn over_limit(rt: &HostRuntime, whole: bool, input: &[u8])
     requires { most_input < length input.now }
 {
     if whole {
-        say(b"total: the input is over 65,536 bytes, nothing is added\n");
+        say(
+            rt,
+            b"total: the input is over 65,536 bytes, nothing is added\n",
+        );
     }
 }
 
 // The record at which the adding stopped, where it did.
-fn stopped(record: usize, number: u8)
+fn stopped(rt: &HostRuntime, record: usize, number: u8)
     requires { number ≡ limit_of number }
 {
     if number == 0 {
         return;
     }
-    say(b"total: stopped at record ");
-    say_number(record);
+    say(rt, b"total: stopped at record ");
+    say_number(rt, record);
     if number == 8 {
-        say(b" with 8: a sum would be 10^18 or beyond");
+        say(rt, b" with 8: a sum would be 10^18 or beyond");
     } else {
-        say(b" with 14: the sheet has 9,000 records");
+        say(rt, b" with 14: the sheet has 9,000 records");
     }
-    say(b"; the totals are those of the records before it\n");
+    say(rt, b"; the totals are those of the records before it\n");
 }
 
 // The records behind an accepted layout: how many are added and how many are refused.
-pub(crate) fn sum_up(whole: bool, input: &[u8], course: Course)
+pub(crate) fn sum_up(rt: &HostRuntime, whole: bool, input: &[u8], course: Course)
     requires { Totalled input.now course.records course.refused course.stop course.sheet }
 {
     if !whole {
@@ -72,18 +80,19 @@ pub(crate) fn sum_up(whole: bool, input: &[u8], course: Course)
     }
     if course.returns != 0 {
         say(
+            rt,
             b"total: hint: records end in a carriage return; tr -d '\\r' <FILE | ./total - totals the file without them\n",
         );
     }
-    stopped(course.records, course.stop);
+    stopped(rt, course.records, course.stop);
     let sheet = course.sheet;
-    say(b"total: ");
-    say_number(sheet.count);
+    say(rt, b"total: ");
+    say_number(rt, sheet.count);
     if sheet.count == 1 {
-        say(b" record added, ");
+        say(rt, b" record added, ");
     } else {
-        say(b" records added, ");
+        say(rt, b" records added, ");
     }
-    say_number(course.refused);
-    say(b" refused\n");
+    say_number(rt, course.refused);
+    say(rt, b" refused\n");
 }
