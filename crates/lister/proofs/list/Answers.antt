@@ -4,7 +4,7 @@ use mathlib.Core.Path.{sym}
 use native.Mathlib.Omega.{arith}
 use lib.Seq.{length-take-le}
 use borrow.Author.Rules.{rules}
-use Rattle.listing.proofs.Splitting.{LayoutAt, layout_at}
+use Rattle.listing.proofs.Splitting.{layout_at}
 use Rattle.listing.proofs.Printing.{layout_printed, not_accepted, layout_refused, layout_taken}
 use Rattle.lister.proofs.list.Goals as goal
 

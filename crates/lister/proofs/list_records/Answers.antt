@@ -1,10 +1,10 @@
 -- `lister::list_records` prints record k's line from where line k begins, and the next line begins behind its end; at the input's end no line is
 -- left. A line says one refusal at most, and those said so far are counted. Assumes nothing.
-use Prim.Native.Nat.{◌≤◌, ◌+◌}
+use Prim.Native.Nat.{◌≤◌}
 use mathlib.Core.Path.{refl, ◌∙◌}
 use native.Mathlib.Omega.{arith}
 use borrow.Author.Rules.{rules}
-use Rattle.listing.proofs.Splitting.{LineAt, line_at, none_left}
+use Rattle.listing.proofs.Splitting.{line_at, none_left}
 use Rattle.listing.proofs.Printing.{record_printed, count_taken, layout_there}
 use Rattle.remarks.proofs.Counting.{one_more, refusals_most, ends_most}
 use Rattle.lister.proofs.list_records.Goals as goal
@@ -22,7 +22,7 @@ loop-at-init c =
       kept = refl;
       room = refl;
       counted = refl;
-      printed = λ e. e
+      printed = λ e. e;
     }
 
 pub slice_bounds-kept_line-end : goal.slice_bounds-kept_line-end
@@ -60,7 +60,7 @@ loop-at-preserved c =
       kept = search rules;
       room = search rules;
       counted = rw c.refusals_in-refused.ensures (one_more c.args.input.now v.k _ _ v.invariant.counted t);
-      printed = λ e. v.invariant.printed (c.print_line-whole.ensures e)
+      printed = λ e. v.invariant.printed (c.print_line-whole.ensures e);
     }
 
 pub returns-clause-lines : goal.returns-clause-lines

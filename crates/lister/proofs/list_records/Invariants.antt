@@ -19,7 +19,7 @@ invariant-loop-at l = record {
   kept : length l.record ≡ length l.fn.record;
   room : length l.out ≡ length l.fn.out;
   counted : RefusedAmong l.input l.k l.refused;
-  printed : l.whole ≡ true → l.printed ≡ true
+  printed : l.whole ≡ true → l.printed ≡ true;
 }
 
 abbrev pub decreases-loop-at : goal.decreases-loop-at
