@@ -53,46 +53,71 @@ readable() {
     [ -r "$file" ] || stop 4 "not readable: $file"
 }
 
-# The folders of the crates that the program is made of.
+# The crates that the program is made of.
 made_of() {
-    awk -F ': *' -v crates="$root/crates/" -v program="$program" '
-        /^[a-z]/ { names[++last] = $1; needs[$1] = $2 }
+    awk -F ': *' -v program="$program" '
+        /^[a-z]/ { sub(/ .*/, "", $1); names[++last] = $1; needs[$1] = $2 }
         END {
             wanted[program] = 1
             for (i = last; i > 0; i--) {
                 if (!wanted[names[i]]) continue
-                print crates names[i]
+                print names[i]
                 count = split(needs[names[i]], below, " ")
                 for (j = 1; j <= count; j++) wanted[below[j]] = 1
             }
         }' "$root/crates.txt"
 }
 
-# Proves and builds unless the program is newer than what it is made of. Without the kit an older program serves.
-build() {
-    local folders
-    mapfile -t folders < <(made_of)
-    [ -x "$built" ] && [ -z "$(find "${folders[@]}" -name must-fail -prune -o -newer "$built" -print -quit)" ] && return
-    if command -v rt >/dev/null; then
-        say "$name: proving and building the $program; the first time takes some minutes"
-        (cd "$root" && rt check "$program" >&2 </dev/null) || stop 5 "the $program can't be built"
-        touch "$built" || stop 5 "the $program can't be built: $built can't be written"
-    else
-        [ -x "$built" ] || stop 5 "the $program is not built, and the Rattle kit (rt) is not installed"
-        say "$name: warning: the $program is older than what it is made of, and the Rattle kit (rt) is not installed"
-    fi
+# Sets folders, where the texts are that the program is made of.
+texts() {
+    local crate part
+    folders=()
+    while read -r crate; do
+        for part in src specs proofs; do
+            [ ! -d "$root/crates/$crate/$part" ] || folders+=("$root/crates/$crate/$part")
+        done
+    done < <(made_of)
 }
 
-# Sets run, which runs the program. It is x86-64 code: on another processor the kit's emulator runs it.
-runner() {
-    local machine kit tools
-    run=("$built")
+# Whether the file is a program that is newer than what it is made of.
+is_new() {
+    [ -x "$1" ] && [ -z "$(find "${folders[@]}" -newer "$1" -print -quit)" ]
+}
+
+# Proves and builds, by `rt run` on no input, which has to come as far as running the program: what that says is not handed on.
+prove() {
+    { (cd "$root/crates/$program" && rt run 2>&1 >/dev/null </dev/null) || true; } |
+        awk '/^rt: running / { runs = 1 } !runs { print; fflush() } END { exit !runs }' >&2
+}
+
+# Takes the program that the kit has built, so that it stays where the kit begins anew.
+take() {
+    mkdir -p "${built%/*}" && cp "$proved" "$built.$$" && mv -f "$built.$$" "$built"
+}
+
+# Proves and builds unless the program is newer than what it is made of. Without the kit an older program serves.
+build() {
+    local folders proved=$root/crates/$program/out/$program
+    texts
+    ! is_new "$built" || return 0
+    if ! is_new "$proved"; then
+        if command -v rt >/dev/null; then
+            say "$name: proving and building the $program; the first time takes some minutes"
+            prove || stop 5 "the $program can't be built"
+        else
+            [ -x "$built" ] || stop 5 "the $program is not built, and the Rattle kit (rt) is not installed"
+            say "$name: warning: the $program is older than what it is made of, and the Rattle kit (rt) is not installed"
+            return
+        fi
+    fi
+    take || stop 5 "the $program can't be built: $built can't be written"
+}
+
+# The kit and what it builds are for x86-64.
+right_machine() {
+    local machine
     machine=$(uname -m)
-    [ "$machine" != x86_64 ] || return 0
-    command -v rt >/dev/null || stop 5 "on $machine the emulator of the Rattle kit (rt) runs the $program, and it is not installed"
-    kit=${RATTLE_HOME:-$(dirname "$(dirname "$(readlink -f "$(command -v rt)")")")}
-    tools=$kit/on/$machine/toolchain
-    run=("$tools/bin/qemu-x86_64" "$tools/lib/ld-linux-x86-64.so.2" --library-path "$tools/lib" "$built")
+    [ "$machine" = x86_64 ] || stop 5 "the $program is for x86-64, and this machine is $machine"
 }
 
 # Runs the program and sets said, what it said on standard error. Its status is 0 unless a signal ended it, or it can't be run; a program that
@@ -101,7 +126,7 @@ say_and_print() {
     local ended=0
     [ "$file" = - ] || { exec <"$file"; } 2>/dev/null || stop 4 "can't be opened: $file"
     exec 3>&1
-    said=$(ulimit -c 0 && exec "${run[@]}" 2>&1 >&3 3>&-) || ended=$?
+    said=$(ulimit -c 0 && exec "$built" 2>&1 >&3 3>&-) || ended=$?
     [ -z "$said" ] || say "$said"
     case $ended in
     0 | 141) ;;
@@ -116,7 +141,7 @@ run_program() {
     understand "$@"
     open_descriptors
     readable
+    right_machine
     build
-    runner
     say_and_print
 }
