@@ -1,6 +1,7 @@
 -- `listing::layout_line` meets its contract: the line's numbers are those that compiling answers; on success the plan's first byte is the
 -- field count, and what its length has besides the counts and headers is the record length. Assumes nothing.
 use native.Mathlib.Omega.{arith}
+use borrow.Author.Rules.{rules}
 use Rattle.listing.proofs.Layouts.{Compiled, compiled, counts_text, plan_inside, listed}
 use Rattle.listing.proofs.layout_line.Goals as goal
 use Rattle.listing.proofs.layout_line.Goals.{Else-answer-ne0}

@@ -1,6 +1,9 @@
 -- `listing::line_end` meets its contract: from wherever the walk stands, the end is as far as it was from the start. Assumes nothing.
-use mathlib.Core.Path.{refl}
+use mathlib.Core.Path.{◌≡◌, refl}
+use Prim.Native.Nat.{◌+◌, ◌-◌}
+use lib.ListN.{length, drop}
 use borrow.Author.Rules.{rules}
+use Rattle.listing.specs.Lines.{to_end}
 use Rattle.listing.proofs.Splitting.{end_here, end_later, end_last}
 use Rattle.listing.proofs.line_end.Goals as goal
 

@@ -1,6 +1,8 @@
 -- `listing::number::put_decimal` meets its contract: the power falls from digit to digit, and what is left to write from here is the whole
 -- number written from `at`. Assumes nothing.
-use Rattle.listing.proofs.Numerals.{Falls}
+use native.Mathlib.Omega.{arith}
+use borrow.Author.Rules.{rules}
+use Rattle.listing.proofs.Numerals.{Falls, fall_start, fall_pos, fall_more, fall_last}
 use Rattle.listing.proofs.number.put_decimal.Given as goal
 
 abbrev pub invariant-loop-left : goal.invariant-loop-left

@@ -3,6 +3,7 @@ use mathlib.Core.Path.{◌≡◌, ◌∙◌}
 use mathlib.Core.Bool.{true, false}
 use native.Mathlib.Omega.{arith}
 use lib.ListN.{length-set}
+use borrow.Author.Rules.{rules}
 use Rattle.rules.specs.Edit.{is_negative}
 use Rattle.decimal.proofs.Signs.{sign, as_pos}
 use Rattle.listing.proofs.Signs.{less_fits, less_cast, small, text_minus, text_plus}

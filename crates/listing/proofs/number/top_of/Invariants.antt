@@ -1,6 +1,8 @@
 -- `listing::number::top_of` meets its contract: the power rises from digit to digit while the number reaches it. Assumes nothing.
+use native.Mathlib.Omega.{arith}
 use Prim.Native.Nat.{◌-◌}
-use Rattle.listing.proofs.Numerals.{Rises}
+use borrow.Author.Rules.{rules}
+use Rattle.listing.proofs.Numerals.{Rises, rise_first, rise_more, rise_last}
 use Rattle.listing.proofs.number.top_of.Given as goal
 
 abbrev pub invariant-loop-power : goal.invariant-loop-power

@@ -1,5 +1,6 @@
 -- `listing::total::added_line` meets its contract: what adding the record answers decides whether there is a line, and is said there. Assumes
 -- nothing.
+use borrow.Author.Rules.{rules}
 use Rattle.listing.proofs.TotalTexts.{entered_none, entered_some}
 use Rattle.listing.proofs.total.added_line.Goals as goal
 

@@ -4,6 +4,7 @@ use lib.ListN.{get_or}
 use mir.Syntax.{w64}
 use mir.Val.{SFits}
 use mir.Facts.{to_z-of_z}
+use borrow.Author.Rules.{rules}
 use Rattle.listing.proofs.TotalTexts.{no_line, place_none, place_some}
 use Rattle.listing.proofs.total.field_line.Goals as goal
 

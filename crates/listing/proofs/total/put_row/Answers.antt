@@ -5,6 +5,7 @@ use Rattle.std.proofs.Common.{◌≤◌, length, take}
 use Prim.Native.Nat.{◌+◌, ◌*◌}
 use native.Mathlib.Omega.{arith}
 use lib.Seq.{length-take-le}
+use borrow.Author.Rules.{rules}
 use Rattle.listing.proofs.Numerals.{decimal_le}
 use Rattle.listing.proofs.Writing.{put_room}
 use Rattle.listing.proofs.Texts.{values_few, line_out}

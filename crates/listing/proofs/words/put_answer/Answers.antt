@@ -1,5 +1,6 @@
 -- `listing::words::put_answer` meets its contract: three numbers, each behind the one before. Assumes nothing.
 use native.Mathlib.Omega.{arith}
+use borrow.Author.Rules.{rules}
 use Rattle.rules.specs.Lister.{decimal}
 use Rattle.listing.specs.Put.{head_of}
 use Rattle.listing.proofs.Numerals.{decimal_le}

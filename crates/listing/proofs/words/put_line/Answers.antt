@@ -5,6 +5,7 @@ use Rattle.std.proofs.Common.{◌≤◌, length, take}
 use Prim.Native.Nat.{◌+◌, ◌*◌}
 use native.Mathlib.Omega.{arith}
 use lib.Seq.{length-take-le}
+use borrow.Author.Rules.{rules}
 use Rattle.listing.proofs.Writing.{put_room}
 use Rattle.listing.proofs.Texts.{head_le, values_few, line_out, line_refused, line_taken}
 use Rattle.listing.proofs.words.put_line.Goals as goal

@@ -2,6 +2,7 @@
 use mathlib.Core.Path.{◌∙◌}
 use native.Mathlib.Omega.{arith}
 use lib.ListN.{length-set}
+use borrow.Author.Rules.{rules}
 use Rattle.listing.proofs.Writing.{put_cons, put_length}
 use Rattle.listing.proofs.Commas.{next_is}
 use Rattle.listing.proofs.words.put_next.Goals as goal
