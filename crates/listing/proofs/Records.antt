@@ -16,7 +16,7 @@ use Rattle.rules.specs.declared.Answer.{Answer}
 use Rattle.rules.specs.Numbers.{bad_field}
 use Rattle.rules.specs.Form.{Form}
 use Rattle.rules.specs.Layout.{forms, HasPlan}
-use Rattle.rules.specs.Answers.{answer, lent_after, said, unread, number_over, answer_over, RecordReads, read_before, record_answer, row_after, RecordIs, no_plan_lem, as_layout, PlanReadIs}
+use Rattle.rules.specs.Answers.{answer, lent_after, said, unread, number_over, answer_over, RecordReads, read_before, record_answer, row_after, RecordIs, as_no_plan, as_layout, PlanReadIs}
 use Rattle.rules.specs.Lister.{signed_decimal, answer_line, record_line}
 use Rattle.rules.proofs.Plans.{forms_count, layout_one}
 use Rattle.rules.proofs.Outcomes.{one_outcome, reads_count, record_reads_one}
@@ -48,7 +48,7 @@ module _ (φs : List Form) (rec : List ℕ) (row : List ℤ) (few : length φs �
 
 pub record_text : (b rec : List ℕ) (k : ℕ) (row : List ℤ) (r : Answer) (after : List ℤ) → length row ≡ 32 → PlanReadIs b rec row r after
     → RecordText b k rec (text_of k r.number r.field (take r.length after))
-record_text b rec k row r after h (no_plan_lem n w) = no_plan_lem n (answer_text k r _ [] (λ z. absurd (omega (arith, ap (λ (a : Answer). a.number) w.0))) ∙ rw w.0)
+record_text b rec k row r after h (as_no_plan n w) = as_no_plan n (answer_text k r _ [] (λ z. absurd (omega (arith, ap (λ (a : Answer). a.number) w.0))) ∙ rw w.0)
 record_text b rec k row r after h (as_layout l p w) =
     as_layout l p (w.says, w.reads, read_text (forms l) rec row (omega (arith, (forms_count l p.layout).1)) k r after w)
 
@@ -63,7 +63,7 @@ over_le before fields behind length = length_le (number_over before fields behin
 
 pub record_few : (b rec : List ℕ) (row : List ℤ) (r : Answer) (after : List ℤ) → PlanReadIs b rec row r after → r.length ≤ 32
 unfolding record_answer
-record_few b rec row r after (no_plan_lem n w) = rw w.0 (omega arith)
+record_few b rec row r after (as_no_plan n w) = rw w.0 (omega arith)
 record_few b rec row r after (as_layout l p w) =
     rw w.gives (le_trans (over_le (read_before (forms l) rec (length row)) (map unread w.says) 0 (length (forms l))) (forms_count l p.layout).1)
 
@@ -81,5 +81,5 @@ record_line_one k b rec out r s x y a c =
 
 -- by the plan of an accepted layout the line is that of the layout's own pictures
 pub record_line_of : (l b rec : List ℕ) (k : ℕ) (t : List ℕ) → HasPlan l b → RecordText b k rec t → (os : List (Option ℤ)) × RecordReads (forms l) rec os × (t ≡ record_line (forms l) k rec os)
-record_line_of l b rec k t h (no_plan_lem n p) = absurd (n l h)
+record_line_of l b rec k t h (as_no_plan n p) = absurd (n l h)
 record_line_of l b rec k t h (as_layout m g p) = rw (layout_one b l m h g) p

@@ -11,7 +11,7 @@ use lib.ListN.{length, get_or, take}
 use borrow.Author.Tests.{ne_eqb, le-leb, lt-leb}
 use Rattle.rules.specs.Numbers.{SIZE, FULL}
 use Rattle.rules.specs.Layout.{plan_of, HasPlan}
-use Rattle.rules.specs.Answers.{no_plan_lem, as_layout}
+use Rattle.rules.specs.Answers.{as_no_plan, as_layout}
 use Rattle.rules.specs.Lister.{most_input}
 use Rattle.rules.proofs.Logic.{by_test}
 use Rattle.rules.proofs.Plans.{forms_count, layout_one}
@@ -40,7 +40,7 @@ module _ (s plan : List ℕ) (p : HasPlan (layout_in s) plan) where
   plan_fields = rw (← p.plan) (omega arith, (refl, (forms_count (layout_in s) p.layout).1))
 
   adds_of : (k : ℕ) (t : Sheet) (a : Added) → k < length (lines_in s) → RecordAddIs plan (get_or (lines_in s) k []) t a → Adds s k t a
-  adds_of k t a there (no_plan_lem n w) = absurd (n (layout_in s) p)
+  adds_of k t a there (as_no_plan n w) = absurd (n (layout_in s) p)
   adds_of k t a there (as_layout m g w) = record { there = there; adds = rw (layout_one plan (layout_in s) m p g) w }
 
   pub none_added : length s ≤ most_input → Adding s 0 0 0 empty_sheet

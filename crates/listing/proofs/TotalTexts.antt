@@ -14,7 +14,7 @@ use Rattle.rules.specs.declared.Answer.{Answer}
 use Rattle.rules.specs.Numbers.{LENGTH, CONVERSION, first_of, bad_field}
 use Rattle.rules.specs.Form.{Form}
 use Rattle.rules.specs.Layout.{most_pictures, record_length, forms}
-use Rattle.rules.specs.Answers.{unsaid, amounts, number_over, answer_over, read_before, record_answer, no_plan_lem, as_layout}
+use Rattle.rules.specs.Answers.{unsaid, amounts, number_over, answer_over, read_before, record_answer, as_no_plan, as_layout}
 use Rattle.rules.specs.Lister.{decimal, signed_decimal, answer_line, record_line}
 use Rattle.rules.proofs.Logic.{by_test}
 use Rattle.totals.specs.declared.Sheet.{Sheet}
@@ -107,7 +107,7 @@ module _ (φs : List Form) (rec : List ℕ) (s : Sheet) (os : List (Option ℤ))
 pub lister_says : (k : ℕ) (b rec : List ℕ) (s : Sheet) (a : Added) → RecordAddIs b rec s a
     → (a.answer.number ≡ LENGTH) ⊎ (a.answer.number ≡ CONVERSION) → RecordText b k rec (refusal_text k a.answer)
 unfolding refusal_text record_line
-lister_says k b rec s a (no_plan_lem n w) h = no_plan_lem n (rw w)
+lister_says k b rec s a (as_no_plan n w) h = as_no_plan n (rw w)
 lister_says k b rec s a (as_layout l p w) h =
     let low : LENGTH ≤ a.answer.number = ⊎_elim (λ e. omega arith) (λ e. omega arith) h in
     let high : a.answer.number ≤ CONVERSION = ⊎_elim (λ e. omega arith) (λ e. omega arith) h in
