@@ -14,7 +14,7 @@ use Rattle.listing.specs.declared.Listed.{Listed}
 abbrev pub most_line : ℕ
 most_line = 3 * 20 + 2 + 22 * most_pictures + 1
 
--- No plan of an accepted layout is longer (plan-fits in proofs/Layouts.antt): the count, the headers, the count of two bytes and the positions.
+-- No plan of an accepted layout is longer (plan_fits in proofs/Layouts.antt): the count, the headers, the count of two bytes and the positions.
 abbrev pub most_plan : ℕ
 most_plan = 1 + 3 * most_pictures + 2 + most_pictures * most_symbols
 
@@ -29,7 +29,7 @@ line_memory text out = cond (leb most_line (length out)) (text ++ drop (length t
 unfoldable pub text_of : ℕ → ℕ → ℕ → List ℤ → List ℕ
 text_of k number field values = line (decimal k ∷ decimal number ∷ decimal field ∷ cond (eqb number 0) (map signed_decimal values) [])
 
--- A layout's line, by the answer of compiling it into the lent plan. With most_plan bytes lent it is layout_line (layout-text in
+-- A layout's line, by the answer of compiling it into the lent plan. With most_plan bytes lent it is layout_line (layout_text_lem in
 -- proofs/Layouts.antt).
 unfoldable pub layout_text : List ℕ → List ℕ → List ℕ
 layout_text l plan = answer_line 0 (compile_answer l plan) (decimal (length (forms l)) ∷ decimal (record_length (forms l)) ∷ [])
@@ -53,7 +53,7 @@ pub record RecordLineIs (k : ℕ) (b rec out : List ℕ) (r : ℕ) (after : List
 unfoldable pub kept_in : List ℕ → List ℕ → List ℕ
 kept_in l kept = cond (leb (length l) (length kept)) (l ++ drop (length l) kept) kept
 
--- how many bytes stand before the next LF, or before the end (by this the input's lines are linesFrom's: proofs/Splitting.antt)
+-- how many bytes stand before the next LF, or before the end (by this the input's lines are lines_from's: proofs/Splitting.antt)
 unfoldable pub to_end : List ℕ → ℕ
 to_end [] = 0
 to_end (b ∷ s) = cond (eqb b (code "\n")) 0 (suc (to_end s))

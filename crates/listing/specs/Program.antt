@@ -8,7 +8,7 @@ use Rattle.rules.specs.Lister.{lines_from, layout_line, record_line, over_limit}
 pub use Rattle.rules.specs.Layout.{accepted, HasPlan}
 pub use Rattle.rules.specs.Lister.{most_input}
 
--- RULES 8.6: the record that the lister keeps; no accepted layout's record is longer (record-fits in proofs/Layouts.antt)
+-- RULES 8.6: the record that the lister keeps; no accepted layout's record is longer (record_fits in proofs/Layouts.antt)
 abbrev pub most_record : ℕ
 most_record = 2048
 

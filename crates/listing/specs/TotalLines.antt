@@ -16,7 +16,7 @@ refusal_text k r = cond (eqb r.number 0) [] (answer_line k r [])
 abbrev pub entered_of : ℕ → Added → List ℕ → Entered
 entered_of k a out = record { number = a.answer.number; line = line_length (refusal_text k a.answer) out; sheet = a.sheet }
 
--- what has come of record k is what adding it to the sheet answers (two such outcomes are equal: entered-one in proofs/TotalTexts.antt)
+-- what has come of record k is what adding it to the sheet answers (two such outcomes are equal: entered_one in proofs/TotalTexts.antt)
 pub record EnteredIs (k : ℕ) (b rec : List ℕ) (s : Sheet) (out : List ℕ) (r : Entered) (after : List ℕ) : Type 0 where
   pub added : Added
   pub adds : RecordAddIs b rec s added

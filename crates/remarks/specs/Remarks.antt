@@ -8,7 +8,7 @@ unfoldable pub not_zero : List ℕ → ℕ
 not_zero [] = 0
 not_zero (c ∷ s) = cond (eqb c (code "0")) 0 1
 
--- how many refusals a line of a listing says, 0 or 1: behind its first comma stands the answer's number (says-refusal in proofs/Refusals.antt)
+-- how many refusals a line of a listing says, 0 or 1: behind its first comma stands the answer's number (says_refusal in proofs/Refusals.antt)
 unfoldable pub refusals : List ℕ → ℕ
 refusals [] = 0
 refusals (c ∷ s) = cond (eqb c (code ",")) (not_zero s) (refusals s)
