@@ -1,12 +1,14 @@
 pub mod Decide
 pub mod Logic
 pub mod Lists
+pub mod Library
 pub mod Search
 pub mod Digits
 pub mod Quotient
 pub mod Magnitudes
 pub mod Powers
 pub mod Firsts
+pub mod Refusing
 pub mod Expand
 pub mod Marks
 pub mod WriteBack

@@ -5,7 +5,6 @@ use mathlib.Core.Bool.{true, false}
 use mathlib.Core.List.{List, [], ◌∷◌}
 use mathlib.Core.Option.{Option, none, some}
 use Prim.Native.Nat.{ℕ, zero, suc}
-use native.Mathlib.Omega.{arith}
 use lib.IntN.{ℤ}
 use lib.ListN.{length, take, drop}
 use Rattle.rules.specs.Numbers.{first_of}
@@ -14,10 +13,10 @@ use Rattle.rules.specs.Shape.{digits_fit, verdict}
 use Rattle.rules.specs.Layout.{HasPlan, accepted, forms, plan_of}
 use Rattle.rules.specs.Answers.{ByPlan, PlanEditIs, PlanReadIs, ReadIs, RecordIs, RecordReads, RowIs, as_layout, as_no_plan, read_answer, record_answer, row_after}
 use Rattle.rules.specs.Good.{good}
-use Rattle.rules.specs.Candidate.{read_all, read_of, reading_of}
+use Rattle.rules.specs.Candidate.{option_of, read_all, read_of}
 use Rattle.rules.specs.PlanBytes.{all_good, forms_in, is_plan}
 use Rattle.rules.specs.declared.Answer.{Answer}
-use Rattle.rules.specs.declared.Reading.TheVariants.{Value, Conversion}
+use Rattle.std.specs.Prelude.{None, Some}
 use Rattle.rules.proofs.Exact.{reads_of, reads_one}
 use Rattle.rules.proofs.Forms.{accepted_good, good_parts}
 use Rattle.rules.proofs.Logic.{both, by_test}
@@ -28,14 +27,14 @@ good_digits φ h = (good_parts φ h).digits
 
 -- Reading one field.
 
--- an answer of the code, and what it says
-pub value_in : (o : Option ℤ) (m : ℤ) → reading_of o ≡ Value m → o ≡ some m
-value_in none m e = let z : ◌≡◌ {A = ℕ} 0 1 = cc in absurd (omega arith)
-value_in (some k) m e = let q : k ≡ m = cc in ap some q
+-- an option of the code, and what it says
+pub value_in : (o : Option ℤ) (m : ℤ) → option_of o ≡ Some m → o ≡ some m
+value_in none m e = cc
+value_in (some k) m e = cc
 
-pub none_in : (o : Option ℤ) → reading_of o ≡ Conversion → o ≡ none
+pub none_in : (o : Option ℤ) → option_of o ≡ None → o ≡ none
 none_in none e = refl
-none_in (some k) e = let z : ◌≡◌ {A = ℕ} 0 1 = cc in absurd (omega arith)
+none_in (some k) e = cc
 
 -- the candidate's answer is right
 pub read_is : (t f : List ℕ) → ReadIs t f (read_answer t f (read_of (meaning t) f))

@@ -2,8 +2,8 @@
 -- proves that this is what ReadsAs asks. Assumes nothing.
 use Rattle.std.specs.Prelude.{◌≡◌, Bool, true, false, cond, ◌&&◌, List, [], ◌∷◌, ℕ, ◌/◌, ◌%◌, ◌^◌, ◌<◌, ℤ, ltb, get_or, take, drop}
 use Rattle.std.proofs.Math.Option.{Option, none, some}
-use Rattle.rules.specs.declared.Reading.{Reading}
-use Rattle.rules.specs.declared.Reading.TheVariants.{Value, Conversion}
+use Rattle.std.specs.declared.option.Option.{Option as CodeOption}
+use Rattle.std.specs.Prelude.{None, Some}
 use Rattle.rules.specs.Words.{place, same}
 use Rattle.rules.specs.Digits.{value_of}
 use Rattle.rules.specs.Roles.{is_digit}
@@ -47,10 +47,10 @@ read_of φ f =
     cond (same (field φ false (worth_of φ f)) f) (some (signed false (worth_of φ f)))
     (cond (minus_fits φ (worth_of φ f) && same (field φ true (worth_of φ f)) f) (some (signed true (worth_of φ f))) none)
 
--- the same as an answer of the code
-abbrev pub reading_of : Option ℤ → Reading
-reading_of none = Conversion
-reading_of (some m) = Value m
+-- the same as an option of the code
+abbrev pub option_of : Option ℤ → CodeOption ℤ
+option_of none = None
+option_of (some m) = Some m
 
 -- and so for each field of a record
 unfoldable pub read_all : List Form → List ℕ → List (Option ℤ)

@@ -1,6 +1,7 @@
 -- RULES 2.1, 2.2 and 2.4: what a picture means: the role of each position, where V stands, and the kind. Assumes nothing.
 use Rattle.std.specs.Prelude.{ℕ, zero, suc, ◌+◌, Bool, cond, ◌&&◌, ◌||◌, List, [], ◌∷◌, leb, ltb, eqb, length, get_or}
 use Prim.Native.Char.{code}
+use Rattle.rules.specs.declared.FormRef.{FormRef}
 use Rattle.rules.specs.Words.{text, has, times, place}
 use Rattle.rules.specs.Text.{the_v, is_mark, symbols_of}
 use Rattle.rules.specs.Roles.{last_kind}
@@ -15,6 +16,10 @@ pub record Form : Type 0 where
 -- the form of these parts
 abbrev pub formed : List ℕ → ℕ → ℕ → Form
 formed roles vee kind = record { roles = roles; vee = vee; kind = kind }
+
+-- the form that is lent as its parts
+abbrev pub form_in : FormRef → Form
+form_in φ = formed φ.roles.now φ.vee φ.kind
 
 -- RULES 2.1: n
 abbrev pub size : Form → ℕ

@@ -10,6 +10,7 @@ pub mod Read
 pub mod Near
 pub mod Layout
 pub mod Numbers
+pub mod Refusals
 pub mod Answers
 pub mod Collector
 pub mod Lister
