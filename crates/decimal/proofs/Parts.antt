@@ -1,39 +1,43 @@
--- The sign and magnitude of a number by cases: a law for each way through the code, and what a caller has of the answer. Assumes nothing.
-use mathlib.Core.Path.{◌≡◌, refl, sym, ◌∙◌, ap}
-use mathlib.Core.Bool.{Bool, true, false, ◌&&◌}
+-- The sign and magnitude of a number by cases: what a caller has of the answer. Assumes nothing.
+use mathlib.Core.Path.{◌≡◌, sym, ◌∙◌}
+use mathlib.Core.Bool.{false}
 use Prim.Native.Nat.{ℕ, ◌^◌, ◌≤◌, ◌<◌}
 use lib.IntN.{ℤ, nat_abs}
 use lib.Dec.{leb, ltb}
 use borrow.Author.Tests.{ltb-true, lt-ltb, le-ltb}
+use Rattle.std.specs.Prelude.{Some, None}
+use Rattle.std.proofs.lemmas.Option.{cond_some, none-some}
 use Rattle.rules.specs.Shape.{most_digits}
 use Rattle.rules.specs.Edit.{most_scale, in_range, is_negative}
 use Rattle.rules.proofs.Logic.{by_test}
-use Rattle.decimal.specs.declared.sign.Parts.{Parts}
+use Rattle.decimal.specs.declared.sign.Signed.{Signed}
 use Rattle.decimal.specs.Sign.{parts_of}
 
+-- the sign and magnitude of any number
+abbrev pub signed_of : ℤ → Signed
+signed_of z = record { negative = is_negative z; magnitude = nat_abs z }
+
 module _ (z : ℤ) where
-  pub parts_out : 10 ^ most_digits ≤ nat_abs z → parts_of z ≡ record { fits = false; negative = false; magnitude = 0 }
+  pub parts_out : 10 ^ most_digits ≤ nat_abs z → parts_of z ≡ None
   unfolding parts_of
   parts_out h = rw (le-ltb (nat_abs z) (10 ^ most_digits) h)
 
-  pub parts_in : (b : Bool) → is_negative z ≡ b → nat_abs z < 10 ^ most_digits → parts_of z ≡ record { fits = true; negative = b; magnitude = nat_abs z }
+  pub parts_in : nat_abs z < 10 ^ most_digits → parts_of z ≡ Some (signed_of z)
   unfolding parts_of
-  parts_in b s h = rw (lt-ltb (nat_abs z) (10 ^ most_digits) h, s)
+  parts_in h = rw (lt-ltb (nat_abs z) (10 ^ most_digits) h)
 
-  -- a number is taken exactly where it is in range
-  pub parts_fits : (parts_of z).fits ≡ ltb (nat_abs z) (10 ^ most_digits)
-  unfolding parts_of
-  parts_fits = by_test (ltb (nat_abs z) (10 ^ most_digits)) (λ e. rw e) (λ e. rw e)
-
-  pub parts_range : (q : ℕ) → in_range z q ≡ ((parts_of z).fits && leb q most_scale)
+  -- A number is taken exactly where it is in range.
+  pub parts_none : parts_of z ≡ None → (q : ℕ) → in_range z q ≡ false
   unfolding in_range
-  parts_range q = rw parts_fits
+  parts_none e q =
+      by_test (ltb (nat_abs z) (10 ^ most_digits))
+      (λ l. absurd (none-some (signed_of z) (sym e ∙ parts_in (ltb-true (nat_abs z) (10 ^ most_digits) l))))
+      (λ l. rw l)
 
-  pub parts_small : (parts_of z).fits ≡ true → nat_abs z < 10 ^ most_digits
-  parts_small e = ltb-true _ _ (sym parts_fits ∙ e)
+  pub parts_some : (s : Signed) → parts_of z ≡ Some s → (nat_abs z < 10 ^ most_digits) × (s ≡ signed_of z)
+  unfolding parts_of
+  parts_some s e = let c = cond_some _ _ _ e in (ltb-true _ _ c.0, sym c.1)
 
-  pub parts_negative : (parts_of z).fits ≡ true → (parts_of z).negative ≡ is_negative z
-  parts_negative e = ap (λ (p : Parts). p.negative) (parts_in (is_negative z) refl (parts_small e))
-
-  pub parts_magnitude : (parts_of z).fits ≡ true → (parts_of z).magnitude ≡ nat_abs z
-  parts_magnitude e = ap (λ (p : Parts). p.magnitude) (parts_in (is_negative z) refl (parts_small e))
+  pub parts_range : (s : Signed) → parts_of z ≡ Some s → (q : ℕ) → in_range z q ≡ leb q most_scale
+  unfolding in_range
+  parts_range s e q = rw (lt-ltb (nat_abs z) (10 ^ most_digits) (parts_some s e).0)

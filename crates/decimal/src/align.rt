@@ -6,14 +6,8 @@ ghost use Rattle.decimal.specs.Align.{aligned_of};
 
 use rules::{Picture, Rounding};
 
-// Where `fits` is false the digits do not hold the number, or an argument is out of range; `t` is then 0.
-#[derive(Clone, Copy)]
-pub struct Aligned {
-    pub fits: bool,
-    pub t: u64,
-}
-
 // By a power of ten. Twice what is left of the division stays below twice the largest power.
+#[tactic(auto, unfolding(rules::specs::Edit::quotient, rules::specs::Edit::rounds_up))]
 fn divided(rounding: Rounding, magnitude: u64, power: u64) -> u64
     requires magnitude_bound { magnitude < 10 ^ most_digits }
     requires power_nonzero { 0 < power }
@@ -21,46 +15,44 @@ fn divided(rounding: Rounding, magnitude: u64, power: u64) -> u64
     ensures { result ≡ quotient rounding magnitude power }
 {
     let down = magnitude / power;
-    match rounding {
-        Rounding::HalfAway => {
-            let rest = magnitude % power;
-            if power <= 2 * rest {
-                return down + 1;
-            }
-            down
-        }
-        Rounding::Cut => down,
-    }
+    let rest = magnitude % power;
+    let rounds_up = match rounding {
+        Rounding::HalfAway => power <= 2 * rest,
+        Rounding::Cut => false,
+    };
+    down + u64::from(rounds_up)
 }
 
-// Size is settled before a product is taken, and behind a division, since rounding may bring one digit more.
-pub fn align(rounding: Rounding, magnitude: u64, q: usize, whole: usize, places: usize) -> Aligned
+// None where the digits do not hold the number, or an argument is out of range. Size is settled before a
+// product is taken, and behind a division, since rounding may bring one digit more.
+#[tactic(auto, using(crate::proofs::Aligning::ways))]
+pub fn align(
+    rounding: Rounding,
+    magnitude: u64,
+    q: usize,
+    whole: usize,
+    places: usize,
+) -> Option<u64>
     ensures { result ≡ aligned_of rounding magnitude q whole places }
 {
-    let refused = Aligned { fits: false, t: 0 };
-    if Picture::LIMIT <= magnitude {
-        return refused;
+    if Picture::LIMIT <= magnitude || Picture::MOST_SCALE < q {
+        return None;
     }
-    if Picture::MOST_SCALE < q {
-        return refused;
+    if Picture::MOST_DIGITS < whole || Picture::MOST_DIGITS - whole < places {
+        return None;
     }
-    if Picture::MOST_DIGITS < whole {
-        return refused;
-    }
-    if Picture::MOST_DIGITS - whole < places {
-        return refused;
-    }
+    // named once, since a use of the table copies it
     let powers = Picture::POWERS;
     if q <= places {
         if powers[whole + q] <= magnitude {
-            return refused;
+            return None;
         }
         let t = magnitude * powers[places - q];
-        return Aligned { fits: true, t };
+        return Some(t);
     }
     let t = divided(rounding, magnitude, powers[q - places]);
     if powers[whole + places] <= t {
-        return refused;
+        return None;
     }
-    Aligned { fits: true, t }
+    Some(t)
 }

@@ -1,59 +1,36 @@
 // A signed number as a sign and a magnitude.
 ghost use Rattle.std.specs.Prelude.{◌≡◌, nat_abs};
+ghost use Rattle.rules.specs.Edit.{is_negative};
 ghost use Rattle.decimal.specs.Sign.{parts_of};
 
 use rules::Picture;
 
-// Where `fits` is false the number is as far from zero as the limit or further, and the rest is empty.
-#[derive(Clone, Copy)]
-pub struct Parts {
-    pub fits: bool,
+#[derive(Clone, Copy, PartialEq, Eq)]
+pub struct Signed {
     pub negative: bool,
     pub magnitude: u64,
 }
 
-// The limit with either sign. A negation in a test would be an operation, so the second is a constant too.
-const ABOVE: i64 = Picture::LIMIT as i64;
+// Of any number: the least one has no counterpart among the signed, but a magnitude.
+impl From<i64> for Signed {
+    ghost from_gives = { λ m signed. signed ≡ record { negative = is_negative m; magnitude = nat_abs m } };
 
-const BELOW: i64 = -ABOVE;
-
-// The range is tested before the negation, which would wrap at the type's least number.
-pub fn split(m: i64) -> Parts
-    ensures { result ≡ parts_of m }
-{
-    let refused = Parts {
-        fits: false,
-        negative: false,
-        magnitude: 0,
-    };
-    if m <= BELOW {
-        return refused;
-    }
-    if ABOVE <= m {
-        return refused;
-    }
-    if m < 0 {
-        let magnitude = (-m) as u64;
-        return Parts {
-            fits: true,
-            negative: true,
-            magnitude,
-        };
-    }
-    let magnitude = m as u64;
-    Parts {
-        fits: true,
-        negative: false,
-        magnitude,
+    fn from(m: i64) -> Signed {
+        Signed {
+            negative: m < 0,
+            magnitude: m.unsigned_abs(),
+        }
     }
 }
 
-// The magnitude of any number. Nothing is negated, so the least number is safe.
-pub fn magnitude(number: i64) -> u64
-    ensures { result ≡ nat_abs number }
+// None where the number is as far from zero as the limit or further (RULES 3.1).
+#[tactic(auto, unfolding(crate::specs::Sign::parts_of))]
+pub fn split(m: i64) -> Option<Signed>
+    ensures { result ≡ parts_of m }
 {
-    if number < 0 {
-        return (-1 - number) as u64 + 1;
+    let signed = Signed::from(m);
+    if Picture::LIMIT <= signed.magnitude {
+        return None;
     }
-    number as u64
+    Some(signed)
 }

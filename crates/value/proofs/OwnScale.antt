@@ -1,15 +1,21 @@
--- A value at the form's own scale: what is answered at each way through `own_number`, by any table of powers; and that by the powers of ten this is the number of
--- the rules, since there is nothing to round and the aligned magnitude is the magnitude. Assumes nothing.
+-- A value at the form's own scale: what is answered at each way through `own_number`, by any table of powers;
+-- and that by the powers of ten this is the number of the rules, since there is nothing to round and the
+-- aligned magnitude is the magnitude. Assumes nothing.
 use Prim.Native.Nat.{ℕ, ◌^◌, ◌<◌, ◌≤◌}
-use mathlib.Core.Path.{◌≡◌, sym, ◌∙◌}
-use mathlib.Core.Bool.{Bool, true, false, not, and-true}
+use mathlib.Core.Path.{◌≡◌, refl, sym, ap, fun_ext, ◌∙◌}
+use mathlib.Core.Bool.{Bool, true, false, cond, not, and-true}
 use mathlib.Core.List.{List, [], ◌∷◌}
 use native.Mathlib.Omega.{arith}
 use borrow.Author.Tests.{lt-ltb, le-ltb, lt-leb, le-leb, leb-false}
 use lib.Dec.{leb}
 use lib.IntN.{ℤ, nat_abs}
 use lib.ListN.{get_or}
+use Rattle.std.specs.Int.{from_bool}
+use Rattle.std.specs.List.{sum_by}
 use Rattle.rules.specs.declared.Rounding.TheVariants.{HalfAway}
+use Rattle.rules.specs.Words.{count}
+use Rattle.rules.specs.Roles.{is_digit}
+use Rattle.rules.proofs.Library.{count_is}
 use Rattle.rules.specs.Numbers.{VALUE, SIZE, when, unless, first_of}
 use Rattle.rules.specs.Text.{most_symbols}
 use Rattle.rules.specs.Form.{Form, size}
@@ -20,6 +26,14 @@ use Rattle.rules.proofs.Exact.{digit_sum, own_big}
 use Rattle.rules.specs.Powers.{powers}
 use Rattle.rules.proofs.Powers.{power_at}
 use Rattle.value.specs.Settling.{own_number, own_over}
+
+-- the digits, as the code counts them
+digit_is : (b : Bool) → from_bool b ≡ cond b 1 0
+digit_is true = refl
+digit_is false = refl
+
+pub digits_sum : (rs : List ℕ) → sum_by (λ r. from_bool (is_digit r)) rs ≡ count is_digit rs
+digits_sum rs = ap (λ (f : ℕ → ℕ). sum_by f rs) (fun_ext (λ r. digit_is (is_digit r))) ∙ count_is is_digit rs
 
 module _ (table : List ℕ) (φ : Form) (m : ℤ) (t : ℕ) (e : t ≡ nat_abs m) where
   pub own_far : 10 ^ most_digits ≤ t → VALUE ≡ own_number table φ m
@@ -54,6 +68,8 @@ module _ (table : List ℕ) (φ : Form) (m : ℤ) (t : ℕ) (e : t ≡ nat_abs m
             pub own_signed : not s ≡ false → 0 ≡ own_number table φ m
             unfolding own_number own_over first_of
             own_signed y = rw (← e, ← c, lt-ltb t (10 ^ most_digits) h, le-ltb most_symbols (size φ) l, le-ltb most_digits d k, lt-leb (get_or table d 0) t g, b, ← x, y)
+
+pub ruleset ways = (digits_sum, own_far, own_long, own_many, own_over_lem, own_plus, own_unsigned, own_signed)
 
 module _ (φ : Form) (m : ℤ) where
   module _ (l : size φ ≤ most_symbols) (k : digit_count φ ≤ most_digits) where
