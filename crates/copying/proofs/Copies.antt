@@ -1,14 +1,13 @@
--- What a copy leaves, where the part fits and where it does not, and one turn of the loop: what is left of the part, put from here on, is
--- the whole part put. Assumes nothing.
+-- What a copy leaves, where the part fits and where it does not. Assumes nothing.
 use mathlib.Core.Path.{◌≡◌, ◌∙◌}
-use mathlib.Core.List.{List, ◌++◌}
-use Prim.Native.Nat.{ℕ, suc, ◌+◌, ◌<◌, ◌≤◌}
+use mathlib.Core.List.{List, ◌++◌, append_assoc}
+use Prim.Native.Nat.{ℕ, ◌+◌, ◌-◌, ◌<◌, ◌≤◌}
 use native.Mathlib.Nat.{zero-add}
-use native.Mathlib.Numerals.{add-one}
 use native.Mathlib.Omega.{arith}
 use borrow.Author.Tests.{le-leb, lt-leb}
-use lib.ListN.{length, get_or, set, drop, drop_of_length-le}
-use lib.Seq.{sets, drop-cons}
+use borrow.Rule.Slice.PartMut.{put_mid}
+use lib.ListN.{length, drop}
+use lib.Seq.{sets, sets-eq, drop-drop}
 use Rattle.rules.proofs.Lists.{sets_front}
 use Rattle.copying.specs.Copy.{copied}
 
@@ -25,12 +24,8 @@ module _ (part out : List ℕ) where
   pub copied_front : length part ≤ length out → copied part 0 out ≡ part ++ drop (length part) out
   copied_front h = copied_in 0 (rw zero-add h) ∙ sets_front part out h
 
--- one byte more
-pub copy_more : (part out : List ℕ) (at k : ℕ) → k < length part → sets out (at + k) (drop k part) ≡ sets (set out (at + k) (get_or part k 0)) (at + (k + 1)) (drop (k + 1) part)
-copy_more part out at k h =
-    let e : at + (k + 1) ≡ suc (at + k) = omega arith in
-    rw (e, add-one k, drop-cons part k 0 h)
-
--- no byte is left
-pub copy_done : (part out : List ℕ) (at k : ℕ) → length part ≤ k → sets out (at + k) (drop k part) ≡ out
-copy_done part out at k h = rw (drop_of_length-le part h)
+  -- the part in the place of as many bytes, as the library's copy leaves it
+  pub copied_part : (at : ℕ) (there : List ℕ) → at + length part ≤ length out → there ≡ part → put_mid at (at + length part - at) out there ≡ copied part at out
+  copied_part at there h e =
+      let n : at + length part - at ≡ length part = omega arith in
+      rw (e, n, drop-drop (length part) at out, ← append_assoc, copied_in at h, sets-eq part out at h)

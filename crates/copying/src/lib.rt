@@ -5,18 +5,12 @@ ghost use Rattle.std.specs.Prelude.{◌≡◌};
 ghost use Rattle.copying.specs.Copy.{copied};
 
 // The part's bytes from byte `at` on; all else stays.
+#[tactic(auto, using(crate::proofs::Copies::copied_out, crate::proofs::Copies::copied_part))]
 pub fn put(part: &[u8], out: &mut [u8], at: usize)
     ensures memory { out.new ≡ copied part.now at out.old }
 {
-    let room = out.len();
-    let count = part.len();
-    if room < count {
+    if out.len() < part.len() || out.len() - part.len() < at {
         return;
     }
-    if room - count < at {
-        return;
-    }
-    for k in 0..count {
-        out[at + k] = part[k];
-    }
+    out[at..at + part.len()].copy_from_slice(part);
 }

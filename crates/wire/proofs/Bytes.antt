@@ -1,16 +1,19 @@
--- A number as little-endian bytes, and back. A loop that writes keeps u / 256^j, whose last byte is byte j. Reading has no loop: four
--- clauses of le_value are four products and 2^32 times the rest, so eight bytes are two fours. Assumes nothing.
-use mathlib.Core.Path.{◌≡◌, refl, sym, ◌∙◌, ap}
-use mathlib.Core.List.{List, ◌++◌, append_assoc}
-use Prim.Native.Nat.{ℕ, zero, suc, ◌+◌, ◌*◌, ◌/◌, ◌%◌, ◌^◌, ◌≤◌, ◌<◌}
-use native.Mathlib.Nat.{div-one, div-add-mod', div-lt_iff_lt-mul, div-div-eq-div-mul, pow-suc, pow-succ', le_of_suc-le-suc, not-suc-le-zero}
+-- A number as little-endian bytes, and back: the library's eight bytes are those of RULES 7.3, and so is the
+-- number that it takes from eight. Assumes nothing.
+use mathlib.Core.Path.{◌≡◌, refl, sym, ◌∙◌, ap, ap₂}
+use mathlib.Core.List.{List, ◌∷◌}
+use Prim.Native.Nat.{ℕ, zero, suc, ◌+◌, ◌*◌, ◌/◌, ◌%◌, ◌^◌, ◌<◌}
+use native.Mathlib.Nat.{div-one, div-add-mod', div-lt_iff_lt-mul, div-div-eq-div-mul, pow-suc}
 use native.Mathlib.Omega.{arith}
-use native.Mathlib.Numerals.{add-one}
-use lib.Dec.{lit<, lit≤}
-use lib.ListN.{length, get_or, set, take, drop}
-use lib.Seq.{drop-cons, take_all, paste-zero, paste-suc, length-paste}
+use lib.Dec.{lit<}
 use lib.IntN.{ℤ}
+use lib.ListN.{length, get_or, drop, drop_of_length-le}
+use lib.Seq.{drop-cons}
+use mir.Syntax.{w64}
+use mir.Val.{of_z}
+use Rattle.std.specs.Int.{byte_at, bytes_low_first, to_le_bytes, from_le_bytes}
 use Rattle.rules.specs.Collector.{bits_of, le_bytes, le_value, bytes_of}
+use Rattle.wire.proofs.Complement.{bits_is}
 
 pub bytes_length : (n u : ℕ) → length (le_bytes n u) ≡ n
 unfolding le_bytes
@@ -21,13 +24,6 @@ pub eight_bytes : (m : ℤ) → length (bytes_of m) ≡ 8
 unfolding bytes_of
 eight_bytes m = bytes_length 8 (bits_of m)
 
-bytes_at : (n u j : ℕ) → j < n → get_or (le_bytes n u) j 0 ≡ u / 256 ^ j % 256
-unfolding le_bytes
-bytes_at zero u j h = absurd (not-suc-le-zero h)
-bytes_at (suc n) u zero h = ap (λ x. x % 256) (sym (div-one u))
-bytes_at (suc n) u (suc j) h =
-    bytes_at n (u / 256) j (le_of_suc-le-suc h) ∙ ap (λ x. x % 256) (div-div-eq-div-mul u 256 (256 ^ j) ∙ ap (λ x. u / x) (sym (pow-succ' 256 j)))
-
 -- there and back
 pub value_bytes : (n u : ℕ) → u < 256 ^ n → le_value (le_bytes n u) ≡ u
 unfolding le_bytes le_value
@@ -35,50 +31,40 @@ value_bytes zero u h = omega arith
 value_bytes (suc n) u h =
     rw (value_bytes n (u / 256) ((div-lt_iff_lt-mul {k = 256} (lit< tt)).1 (rw (pow-suc 256 n) at h))) (div-add-mod' u 256)
 
--- writing: after j turns the first j bytes of u stand in d from index at on
-unfoldable pub stored : List ℕ → ℕ → ℕ → ℕ → List ℕ
-stored d at u j = take at d ++ take j (le_bytes 8 u) ++ drop (at + j) d
+-- writing: byte i is the last one of what i divisions leave
+byte_is : (i u : ℕ) → byte_at i u ≡ u / 256 ^ i % 256
+byte_is zero u = ap (λ x. x % 256) (sym (div-one u))
+byte_is (suc i) u = refl
 
-pub rest_more : (u j : ℕ) → u / 256 ^ j / 256 ≡ u / 256 ^ (j + 1)
-rest_more u j = rw (div-div-eq-div-mul, add-one, pow-suc)
+divided : (i u : ℕ) → u / 256 ^ suc i ≡ u / 256 ^ i / 256
+divided i u = rw (div-div-eq-div-mul, ← pow-suc)
 
-module _ (d : List ℕ) (at u : ℕ) where
-  pub store_none : d ≡ stored d at u 0
-  unfolding stored
-  store_none = paste-zero d at (le_bytes 8 u)
+bytes_are : (i n u : ℕ) → bytes_low_first i n u ≡ le_bytes n (u / 256 ^ i)
+unfolding le_bytes
+bytes_are i zero u = refl
+bytes_are i (suc n) u = ap₂ ◌∷◌ (byte_is i u) (bytes_are (suc i) n u ∙ ap (λ x. le_bytes n x) (divided i u))
 
-  pub store_more : (j : ℕ) → at + 8 ≤ length d → j < 8 → set (stored d at u j) (at + j) (u / 256 ^ j % 256) ≡ stored d at u (j + 1)
-  unfolding stored
-  store_more j room h = rw (← bytes_at 8 u j h, add-one) (paste-suc d at (le_bytes 8 u) j 0 (omega arith) (rw bytes_length h))
-
-  pub store_length : (j : ℕ) → at + 8 ≤ length d → j ≤ 8 → length (stored d at u j) ≡ length d
-  unfolding stored
-  store_length j room h = length-paste d at (le_bytes 8 u) j (omega arith) (rw bytes_length h)
-
-  pub store_all : stored d at u 8 ≡ take at d ++ (le_bytes 8 u ++ drop (at + 8) d)
-  unfolding stored
-  store_all =
-      rw (take_all 8 (le_bytes 8 u) (rw bytes_length (lit≤ tt)))
-      (append_assoc (take at d) (le_bytes 8 u) (drop (at + 8) d))
+pub to_bytes : (m : ℤ) → to_le_bytes w64 (of_z w64 m) ≡ bytes_of m
+unfolding bytes_of
+to_bytes m = bytes_are 0 8 (of_z w64 m) ∙ ap (λ x. le_bytes 8 x) (div-one (of_z w64 m) ∙ bits_is m)
 
 -- reading: a byte is worth itself, and what stands behind it 256 times as much
-value_more : (s : List ℕ) (at next n : ℕ) → at < length s → suc at ≡ next → le_value (take (suc n) (drop at s)) ≡ get_or s at 0 + 256 * le_value (take n (drop next s))
+value_more : (s : List ℕ) (k : ℕ) → k < length s → le_value (drop k s) ≡ get_or s k 0 + 256 * le_value (drop (suc k) s)
 unfolding le_value
-value_more s at next n h e = rw (drop-cons s at 0 h, e) (omega arith)
+value_more s k h = rw (drop-cons s k 0 h) (omega arith)
 
-module _ (s : List ℕ) (at : ℕ) where
-  -- four bytes are four products, and what stands behind them weighs 2^32
-  pub four_more : (n : ℕ) → at + 4 ≤ length s
-      → le_value (take (suc (suc (suc (suc n)))) (drop at s)) ≡ get_or s at 0 + 256 * get_or s (at + 1) 0 + 65536 * get_or s (at + 2) 0 + 16777216 * get_or s (at + 3) 0 + 4294967296 * le_value (take n (drop (at + 4) s))
-  four_more n h =
-      omega (
-        arith,
-        value_more s at (at + 1) (suc (suc (suc n))) (omega arith) (omega arith),
-        value_more s (at + 1) (at + 2) (suc (suc n)) (omega arith) (omega arith),
-        value_more s (at + 2) (at + 3) (suc n) (omega arith) (omega arith),
-        value_more s (at + 3) (at + 4) n (omega arith) (omega arith),
-      )
-
-  pub two_fours : at + 8 ≤ length s → le_value (take 8 (drop at s)) ≡ le_value (take 4 (drop at s)) + 4294967296 * le_value (take 4 (drop (at + 4) s))
-  unfolding le_value
-  two_fours h = omega (arith, four_more 4 (omega arith), four_more 0 (omega arith))
+pub from_bytes : (s : List ℕ) → length s ≡ 8 → from_le_bytes w64 s ≡ le_value s
+unfolding le_value
+from_bytes s e =
+    let none : le_value (drop 8 s) ≡ 0 = ap le_value (drop_of_length-le s {i = 8} (omega arith)) in
+    omega (
+      arith,
+      value_more s 0 (omega arith),
+      value_more s 1 (omega arith),
+      value_more s 2 (omega arith),
+      value_more s 3 (omega arith),
+      value_more s 4 (omega arith),
+      value_more s 5 (omega arith),
+      value_more s 6 (omega arith),
+      value_more s 7 (omega arith),
+    )

@@ -1,5 +1,5 @@
--- A whole row in a run: what a loop that puts or gets number after number keeps, and that the row reads back. The bytes of the first k
--- numbers are 8 * k long, so number k goes right behind them. Assumes nothing.
+-- A whole row in a run: what a loop that puts or gets number after number keeps, and that the row reads back.
+-- The bytes of the first k numbers are 8 * k long, so number k goes right behind them. Assumes nothing.
 use mathlib.Core.Path.{◌≡◌, refl, sym, ◌∙◌, ap}
 use mathlib.Core.List.{List, [], ◌∷◌, ◌++◌, append_assoc, append-nil}
 use Prim.Native.Nat.{ℕ, zero, suc, ◌+◌, ◌*◌, ◌/◌, ◌≤◌, ◌<◌}

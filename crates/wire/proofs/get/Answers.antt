@@ -1,19 +1,14 @@
--- `wire::get` meets its contract: where eight bytes do not fit it answers 0, and else the eight bytes are worth their low four and 2^32 times
--- their high four, which stays below 2^64 because each four is below 2^32. Assumes nothing.
-use mathlib.Core.Path.{sym}
+-- `wire::get` meets its contract: the eight bytes that are taken are those from byte `at` on. Assumes
+-- nothing.
+use mathlib.Core.Path.{◌∙◌}
 use native.Mathlib.Omega.{arith}
 use mir.Syntax.{w64}
 use mir.Facts.{to_z-of_z}
-use Rattle.wire.proofs.Run.{get_out, get_fours}
+use Rattle.std.proofs.lemmas.Result.{MatchResult-at_ok}
+use Rattle.wire.proofs.Run.{get_part}
 use Rattle.wire.proofs.get.Goals as goal
-
-pub returns-then-room-lt8 : goal.returns-then-room-lt8
-returns-then-room-lt8 c = sym (get_out _ _ (omega arith))
-
-pub returns-then-room-at : goal.returns-then-room-at
-returns-then-room-at c = sym (get_out _ _ (omega arith))
 
 pub returns : goal.returns
 returns c =
-    rw (to_z-of_z {w = w64} {z = c.int.result} (record { sfits = c.int.type_inv }), c.int.ensures, c.four.ensures.0, c.four-2.ensures.0)
-    (get_fours _ _ (omega arith))
+    let chunk = MatchResult-at_ok _ _ _ c.unwrap.ensures c.try_into.ensures.1 in
+    to_z-of_z {w = w64} (record { sfits = c.from_le_bytes.type_inv }) ∙ c.from_le_bytes.ensures ∙ get_part _ _ _ (omega arith) chunk
