@@ -1,5 +1,5 @@
--- What is written is the field: by the table of crate roles, and of a magnitude with no more digits than the form, the character at each position is that of
--- RULES 3. Assumes nothing.
+-- What is written is the field: by the table of crate roles, and of a magnitude with no more digits than the
+-- form, the character at each position is that of RULES 3. Assumes nothing.
 use mathlib.Core.Path.{◌≡◌, sym, ◌∙◌}
 use mathlib.Core.Bool.{Bool, true, false, true≢false, and-false, or-true}
 use mathlib.Core.List.{List}

@@ -1,15 +1,17 @@
--- Which positions are hidden, and where the drifting character stands, as the code finds them: by what is left of the magnitude. Where the magnitude has no
--- more digits than the form these are the stretch and its character's place (RULES 3.8, 3.9, 3.13), since before V and the first nine nothing is left
--- exactly where no digit shows yet. Assumes nothing.
+-- Which positions are hidden, and where the drifting character stands, as the code finds them: by what is
+-- left of the magnitude. Where the magnitude has no more digits than the form these are the stretch and its
+-- character's place (RULES 3.8, 3.9, 3.13), since before V and the first nine nothing is left exactly where
+-- no digit shows yet. Assumes nothing.
 use mathlib.Core.Path.{◌≡◌, refl, sym, ◌∙◌}
 use mathlib.Core.Bool.{Bool, true, false, not, ◌&&◌, ◌||◌, true≢false, and-false, or-false, or-true}
 use mathlib.Core.List.{List}
 use mathlib.Core.Logic.{⊎_elim}
-use Prim.Native.Nat.{ℕ, suc, ◌%◌, ◌^◌, ◌<◌, ◌≤◌, min}
+use Prim.Native.Nat.{ℕ, suc, ◌+◌, ◌-◌, ◌%◌, ◌^◌, ◌<◌, ◌≤◌, min}
 use native.Mathlib.Omega.{arith}
 use borrow.Author.Tests.{eq-eqb, eqb-true, le-leb, leb-true, lt-leb, le-ltb, lt-ltb, ltb-true, not-true}
 use lib.Dec.{eqb, leb, ltb}
-use lib.ListN.{length, get_or}
+use lib.ListN.{length, get_or, take, drop}
+use Rattle.std.proofs.lemmas.List.{length-take-le, take_rest}
 use Rattle.rules.specs.Search.{first}
 use Rattle.rules.specs.Digits.{digits_of}
 use Rattle.rules.specs.Roles.{is_b, is_digit, is_nine, is_suppressible, opens}
@@ -21,6 +23,7 @@ use Rattle.rules.proofs.Search.{first_holds, first_le, first_least, first_mono, 
 use Rattle.rules.proofs.Stretch.{counts, drifts_in, drifts_last, early, start_below, start_simple, stretch_from, stretch_in, stretch_to}
 use Rattle.field.specs.Results.{is_hidden, left_at, nine_in, reach, spot}
 use Rattle.field.specs.Steps.{Between, lead_to}
+use Rattle.field.proofs.Places.{first_drop, first_take}
 use Rattle.field.proofs.Left.{left_due, left_none, left_zeros}
 
 module _ (φ : Form) where
@@ -88,6 +91,20 @@ module _ (rs : List ℕ) (v kind : ℕ) where
   pub lead_reach : lead_to rs n ≤ nine_in rs n
   unfolding lead_to nine_in
   lead_reach = first_mono _ _ n (λ k l e. rw e (or-true (opens (get_or rs k 0))))
+
+  -- as they are looked for: among the positions before V, and from the first on
+  pub lead_part : lead_to (take n rs) (length (take n rs)) ≡ lead_to rs n
+  unfolding lead_to
+  lead_part = first_take (λ r. opens r || is_nine r) rs n (omega arith)
+
+  pub reach_part : (lead : ℕ) → lead ≡ lead_to rs n → (let part = take (length (take n rs) - lead) (drop lead (take n rs)) in lead + nine_in part (length part) ≡ nine_in rs n)
+  unfolding lead_to nine_in
+  reach_part lead e =
+      let s : first (λ k. is_nine (get_or (take n rs) k 0)) (length (take n rs)) ≡ nine_in rs n = first_take is_nine rs n (omega arith) in
+      let l : lead ≤ nine_in rs n = rw e lead_reach in
+      let m : length (take n rs) ≡ n = length-take-le n rs (omega arith) in
+      let b : nine_in rs n ≤ n = first_le (λ k. is_nine (get_or rs k 0)) n in
+      rw (take_rest (take n rs) lead) (first_drop is_nine (take n rs) lead (omega arith) (rw s l) ∙ s)
 
   module _ (lead : ℕ) (e : lead ≡ lead_to rs n) where
     pub lead_between : Between φ lead (nine_in rs n)

@@ -1,5 +1,6 @@
--- What is left of a magnitude as its digits come off from the right: one position on it is the same or a tenth of it, its last digit is the one that is due,
--- and it is 0 exactly where all digits before are 0, if the magnitude has no more digits than the form. Assumes nothing.
+-- What is left of a magnitude as its digits come off from the right: one position on it is the same or a
+-- tenth of it, its last digit is the one that is due, and it is 0 exactly where all digits before are 0, if
+-- the magnitude has no more digits than the form. Assumes nothing.
 use mathlib.Core.Path.{◌≡◌, sym, ◌∙◌, ap, subst}
 use mathlib.Core.Bool.{true, cond}
 use mathlib.Core.List.{List}

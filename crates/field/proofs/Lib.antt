@@ -1,6 +1,7 @@
 pub mod Loops
 pub mod Left
 pub mod Bytes
+pub mod Places
 pub mod Hiding
 pub mod Field
 pub mod Turns

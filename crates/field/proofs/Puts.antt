@@ -1,5 +1,5 @@
 -- The ways through `put`: the field doesn't fit, everything is suppressed, or not. Assumes nothing.
-use mathlib.Core.Path.{◌≡◌, sym, ◌∙◌}
+use mathlib.Core.Path.{◌≡◌, sym}
 use mathlib.Core.Bool.{Bool, true, false, not, and-false}
 use mathlib.Core.List.{List}
 use Prim.Native.Nat.{ℕ, ◌+◌, ◌<◌, ◌≤◌}
@@ -24,14 +24,14 @@ module _ (table : List ℕ) (φ : Form) (negative : Bool) (t from : ℕ) (lent :
     put_in : copied (field_by table φ negative t) from lent ≡ sets lent from (field_by table φ negative t)
     put_in = copied_in (field_by table φ negative t) lent from (rw (length_by table φ negative t) h)
 
-    pub put_blanked : t ≡ 0 → (nine : Bool) → nine ≡ any is_nine φ.roles → not nine ≡ true → (after : List ℕ)
-        → after ≡ sets lent from (up_to (size φ) (λ k. suppressed φ.kind (role_at φ k))) → after ≡ copied (field_by table φ negative t) from lent
+    pub put_blanked : t ≡ 0 → (nine : Bool) → nine ≡ any is_nine φ.roles → not nine ≡ true → (part : List ℕ)
+        → part ≡ up_to (size φ) (λ k. suppressed φ.kind (role_at φ k)) → sets lent from part ≡ copied (field_by table φ negative t) from lent
     unfolding field_by is_blank all_suppressible
-    put_blanked z nine n g after e = e ∙ rw (put_in, z, ← n, g)
+    put_blanked z nine n g part e = rw (e, put_in, z, ← n, g)
 
-    pub put_showing : is_blank φ t ≡ false → (after : List ℕ) → after ≡ sets lent from (up_to (size φ) (shown_at table φ negative t)) → after ≡ copied (field_by table φ negative t) from lent
+    pub put_showing : is_blank φ t ≡ false → (part : List ℕ) → part ≡ up_to (size φ) (shown_at table φ negative t) → sets lent from part ≡ copied (field_by table φ negative t) from lent
     unfolding field_by
-    put_showing b after e = e ∙ rw (put_in, b)
+    put_showing b part e = rw (e, put_in, b)
 
 module _ (φ : Form) (t : ℕ) where
   pub nine_shows : (nine : Bool) → nine ≡ any is_nine φ.roles → not nine ≡ false → is_blank φ t ≡ false

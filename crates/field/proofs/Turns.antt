@@ -1,5 +1,6 @@
--- One turn where positions can be hidden, and the parts of a field together. The drifting character waits until the first hidden position that is no B is
--- met; that is its place, since of the hidden ones it is the last. Assumes nothing.
+-- One turn where positions can be hidden, and the parts of a field together. The drifting character waits
+-- until the first hidden position that is no B is met; that is its place, since of the hidden ones it is the
+-- last. Assumes nothing.
 use mathlib.Core.Path.{◌≡◌, refl, sym, ◌∙◌, subst}
 use mathlib.Core.Bool.{Bool, true, false, cond, not, ◌&&◌, ◌||◌, true≢false, and-false, and-true}
 use mathlib.Core.List.{List}
@@ -16,30 +17,26 @@ use Rattle.rules.specs.Roles.{drifts, is_b, is_bare, is_digit, is_nine, is_punch
 use Rattle.rules.specs.Form.{Form, formed, role_at, size}
 use Rattle.rules.specs.Edit.{fill}
 use Rattle.rules.proofs.Logic.{both, by_test, lt_or_le, neither}
-use Rattle.rules.proofs.Search.{first_holds, first_none, last_found, last_holds, up_to_same}
+use Rattle.rules.proofs.Search.{last_found, last_holds, up_to_same}
 use Rattle.roles.specs.Table.{figure_by, mark_by}
 use Rattle.field.specs.Results.{is_hidden, left_at, nine_in, printed_at, printed_by, shown_at, spot}
 use Rattle.field.specs.Steps.{Between, lead_to, step_of}
-use Rattle.field.specs.declared.step.Step.{Step}
-use Rattle.field.proofs.Bytes.{sets_less}
+use Rattle.field.specs.declared.writing.Step.{Step}
+use Rattle.field.proofs.Bytes.{sets_back}
 use Rattle.field.proofs.Field.{punched_digit}
 use Rattle.field.proofs.Left.{left_back}
 use Rattle.field.proofs.Hiding.{hidden_before, hidden_left, hidden_not, hidden_parts, lead_before, lead_mark, reach_is, reach_le}
 
--- a step is its two parts
-made : (s : Step) → s ≡ record { prints = s.prints; left = s.left }
-made s = refl
-
 -- One position: a bare digit, a punched one, or a mark.
 module _ (table : List ℕ) (r : ℕ) (negative : Bool) (t : ℕ) where
-  pub step_bare : is_bare r ≡ true → (s : Step) → s.prints ≡ 48 + t % 10 → s.left ≡ t / 10 → s ≡ step_of table r negative t
+  pub step_bare : is_bare r ≡ true → record { prints = 48 + t % 10; left = t / 10 } ≡ step_of table r negative t
   unfolding step_of printed_by is_bare
-  step_bare b s x y = made s ∙ rw (x, y, (both (is_digit r) _ b).0, (both (is_digit r) _ b).1)
+  step_bare b = rw ((both (is_digit r) _ b).0, (both (is_digit r) _ b).1)
 
   module _ (b : is_bare r ≡ false) where
-    pub step_punched : is_punched r ≡ true → (d q : ℕ) → d ≡ t % 10 → q ≡ t / 10 → record { prints = figure_by table r negative d; left = q } ≡ step_of table r negative t
+    pub step_punched : is_punched r ≡ true → record { prints = figure_by table r negative (t % 10); left = t / 10 } ≡ step_of table r negative t
     unfolding step_of printed_by
-    step_punched p d q x y = rw (b, p, x, y, punched_digit r p)
+    step_punched p = rw (b, p, punched_digit r p)
 
     pub step_mark : is_punched r ≡ false → record { prints = mark_by table r negative; left = t } ≡ step_of table r negative t
     unfolding step_of printed_by is_bare
@@ -55,7 +52,7 @@ module _ (table rs : List ℕ) (negative : Bool) (t k : ℕ) (h : 0 < k) (l : k 
   unfolding step_of printed_at
   print_turn = let q : suc (k - 1) ≡ k = omega arith in rw (e, q)
 
-module _ (table : List ℕ) (φ : Form) (negative : Bool) (t from lead to : ℕ) (lent : List ℕ) where
+module _ (table : List ℕ) (φ : Form) (negative : Bool) (t lead to : ℕ) (lent : List ℕ) where
   abbrev shows : ℕ → ℕ
   shows = shown_at table φ negative t
 
@@ -66,7 +63,7 @@ module _ (table : List ℕ) (φ : Form) (negative : Bool) (t from lead to : ℕ)
   pub record Hiding (k rest waits : ℕ) (out : List ℕ) : Type 0 where
     pub left : rest ≡ left_at φ.roles t k
     pub due : 0 < k → waits ≡ waiting k
-    pub same : sets out from (up_to k shows) ≡ sets lent from (up_to to shows)
+    pub same : sets out 0 (up_to k shows) ≡ sets lent 0 (up_to to shows)
 
   abbrev placed : ℕ → Bool
   placed k = is_hidden φ t k && not (is_b (role_at φ k))
@@ -149,13 +146,13 @@ module _ (table : List ℕ) (φ : Form) (negative : Bool) (t from lead to : ℕ)
       pub hide_turn : (s : Step) → s ≡ step_of table (role_at φ j) negative rest → (v w : ℕ)
           → v ≡ cond (not (eqb rest 0)) s.prints (cond (is_b (role_at φ j)) (code " ") waits)
           → w ≡ cond (not (eqb rest 0) || is_b (role_at φ j)) waits (fill φ.kind)
-          → Hiding j s.left w (set out (from + j) v)
+          → Hiding j s.left w (set out j v)
       unfolding step_of
       hide_turn s x v w q z =
-          let made : v ≡ shows j → (0 < j → w ≡ waiting j) → Hiding j s.left w (set out (from + j) v) = λ a c. record {
+          let made : v ≡ shows j → (0 < j → w ≡ waiting j) → Hiding j s.left w (set out j v) = λ a c. record {
             left = rw (x, d.left) (sym (left_back φ.roles t k (omega arith) (omega (arith, in_size))));
             due = c;
-            same = sets_less shows out from k v (omega arith) a d.same;
+            same = sets_back shows out k v (omega arith) a d.same;
           } in
           by_test (eqb rest 0)
           (λ e. by_test (is_b (role_at φ j))
@@ -168,20 +165,8 @@ unpunched : (r : ℕ) → is_digit r ≡ false → is_punched r ≡ false
 unfolding is_digit is_nine
 unpunched r d = (neither (eqb r 0) _ (neither _ (is_suppressible r) d).0).1
 
--- no nine stands before the first one
-pub nine_self : (rs : List ℕ) (n to : ℕ) → to ≡ nine_in rs n → to ≤ nine_in rs to
-unfolding nine_in
-nine_self rs n to e =
-    ⊎_elim
-    (λ (l : nine_in rs to < to).
-    let x = first_holds (λ j. is_nine (get_or rs j 0)) to l in
-    let y = first_none (λ j. is_nine (get_or rs j 0)) n (nine_in rs to) (omega arith) in
-    absurd (true≢false (sym x ∙ y)))
-    (λ (l : to ≤ nine_in rs to). l)
-    (lt_or_le (nine_in rs to) to)
-
 -- The whole: what stands behind prints, then what can be hidden, then what stands before.
-module _ (table rs : List ℕ) (v kind : ℕ) (negative : Bool) (t from : ℕ) where
+module _ (table rs : List ℕ) (v kind : ℕ) (negative : Bool) (t : ℕ) where
   abbrev φ : Form
   φ = formed rs v kind
 
@@ -199,8 +184,8 @@ module _ (table rs : List ℕ) (v kind : ℕ) (negative : Bool) (t from : ℕ) w
       rw (hidden_before φ t k (lead_before rs v kind lead e k h), d, unpunched (get_or rs k 0) d)
 
   pub all_parts : (lead to : ℕ) → lead ≡ lead_to rs n → to ≡ nine_in rs n → (lent a b c : List ℕ)
-      → sets a from (up_to to (shown_at table φ negative t)) ≡ sets lent from (up_to (length rs) (shown_at table φ negative t))
-      → sets b from (up_to lead (shown_at table φ negative t)) ≡ sets a from (up_to to (shown_at table φ negative t))
-      → c ≡ sets b from (up_to lead (λ k. mark_by table (get_or rs k 0) negative))
-      → c ≡ sets lent from (up_to (length rs) (shown_at table φ negative t))
+      → sets a 0 (up_to to (shown_at table φ negative t)) ≡ sets lent 0 (up_to (length rs) (shown_at table φ negative t))
+      → sets b 0 (up_to lead (shown_at table φ negative t)) ≡ sets a 0 (up_to to (shown_at table φ negative t))
+      → c ≡ sets b 0 (up_to lead (λ k. mark_by table (get_or rs k 0) negative))
+      → c ≡ sets lent 0 (up_to (length rs) (shown_at table φ negative t))
   all_parts lead to e q lent a b c x y z = z ∙ rw (up_to_same _ _ lead (λ k h. before_is lead e k h)) (y ∙ x)

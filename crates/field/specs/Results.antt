@@ -1,6 +1,6 @@
--- What the calls of this crate answer, over all inputs: bytes that are no roles, a kind that is none, a V past the end, a magnitude with more digits than
--- the form, any table of characters. proofs/Field.antt proves that by the table of crate roles a magnitude that fits has the field of RULES 3. Assumes
--- nothing.
+-- What the calls of this crate answer, over all inputs: bytes that are no roles, a kind that is none, a V
+-- past the end, a magnitude with more digits than the form, any table of characters. proofs/Field.antt proves
+-- that by the table of crate roles a magnitude that fits has the field of RULES 3. Assumes nothing.
 use Rattle.std.specs.Prelude.{Bool, cond, not, ◌&&◌, List, ℕ, suc, ◌+◌, ◌/◌, ◌%◌, ◌^◌, min, leb, ltb, eqb, get_or, drop}
 use Prim.Native.Char.{code}
 use Rattle.rules.specs.Words.{count}

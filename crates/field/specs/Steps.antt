@@ -1,17 +1,11 @@
 -- Beyond RULES: what the steps of the calls hand on. Assumes nothing.
-use Rattle.std.specs.Prelude.{◌≡◌, Bool, cond, ◌||◌, List, ℕ, ◌/◌, ◌%◌, ◌≤◌, ◌<◌, get_or, take, drop}
-use Rattle.rules.specs.Words.{any, count}
+use Rattle.std.specs.Prelude.{◌≡◌, Bool, cond, ◌||◌, List, ℕ, ◌/◌, ◌%◌, ◌≤◌, ◌<◌, get_or}
 use Rattle.rules.specs.Search.{first}
-use Rattle.rules.specs.Roles.{is_digit, is_nine, is_sign, opens}
+use Rattle.rules.specs.Roles.{is_digit, is_nine, opens}
 use Rattle.rules.specs.Form.{Form}
 use Rattle.rules.specs.Edit.{opening}
 use Rattle.field.specs.Results.{printed_by, reach}
-use Rattle.field.specs.declared.survey.Survey.{Survey}
-use Rattle.field.specs.declared.step.Step.{Step}
-
--- what one pass over the roles counts
-unfoldable pub survey_of : List ℕ → ℕ → Survey
-survey_of rs v = record { whole = count is_digit (take v rs); places = count is_digit (drop v rs); signed = any is_sign rs }
+use Rattle.field.specs.declared.writing.Step.{Step}
 
 -- the first digit or drifting symbol of the first n positions; n where there is none
 unfoldable pub lead_to : List ℕ → ℕ → ℕ

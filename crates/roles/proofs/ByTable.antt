@@ -1,5 +1,5 @@
--- By the table of characters a call answers what the rules say: a column of the marks by computing over those there are, a digit because the lists stand behind
--- both rows of marks. Assumes nothing.
+-- By the table of characters a call answers what the rules say: a column of the marks by computing over those
+-- there are, a digit because the lists stand behind both rows of marks. Assumes nothing.
 use mathlib.Core.Path.{◌≡◌, refl, sym}
 use mathlib.Core.Bool.{Bool, true, false}
 use mathlib.Core.List.{◌++◌}

@@ -1,5 +1,5 @@
--- The table of marks has one column a role up to the marks' letters: an arm of `mark_of` is a column, by the sign or for both signs, and past the table there is 0.
--- Assumes nothing.
+-- The table of marks has one column a role up to the marks' letters: an arm of `mark_of` is a column, by the
+-- sign or for both signs, and past the table there is 0. Assumes nothing.
 use mathlib.Core.Path.{◌≡◌, refl, sym}
 use mathlib.Core.Bool.{Bool, true, false, cond}
 use Prim.Native.Nat.{ℕ, zero, suc, ◌+◌, ◌≤◌}

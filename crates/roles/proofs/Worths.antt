@@ -1,5 +1,5 @@
--- What a byte tells of the lists, its digit and its list, by the ranges of the character set in which they lie: two tests that are computed over
--- all bytes. Assumes nothing.
+-- What a byte tells of the lists, its digit and its list, by the ranges of the character set in which they
+-- lie: two tests that are computed over all bytes. Assumes nothing.
 use mathlib.Core.Path.{◌≡◌, refl, sym, ◌∙◌}
 use mathlib.Core.Bool.{cond}
 use Prim.Native.Nat.{ℕ, ◌+◌, ◌-◌, ◌<◌}

@@ -1,5 +1,5 @@
--- Beyond RULES: the characters that positions print as one table, and what a call answers by any table. proofs/ByTable.antt proves that by this one they
--- are the characters of RULES 3.10 to 3.12. Assumes nothing.
+-- Beyond RULES: the characters that positions print as one table, and what a call answers by any table.
+-- proofs/ByTable.antt proves that by this one they are the characters of RULES 3.10 to 3.12. Assumes nothing.
 use Rattle.std.specs.Prelude.{ℕ, ◌+◌, ◌*◌, Bool, true, false, cond, List, ◌++◌, ltb, get_or}
 use Rattle.rules.specs.Edit.{figures, list_of, marks}
 

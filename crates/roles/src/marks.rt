@@ -8,14 +8,12 @@ use super::is_b;
 pub fn chosen(test: bool, yes: u8, no: u8) -> u8
     ensures { result ≡ cond test yes no }
 {
-    if test {
-        return yes;
-    }
-    no
+    if test { yes } else { no }
 }
 
-// RULES 3.11 and 3.12: the character of a role that is no digit, and of a drifting symbol by the kind, which has the number of the symbol's static
-// role. CR and DB are written and compared as the letters of these two strings. T, I, R and a byte that is no role have none: 0.
+// RULES 3.11 and 3.12: the character of a role that is no digit, and of a drifting symbol by the kind, which
+// has the number of the symbol's static role. CR and DB are compared and written as the letters of these two
+// strings. T, I, R and a byte that is no role have none: 0.
 pub fn mark_of(role: u8, negative: bool) -> u8
     ensures { result ≡ mark role negative }
 {
@@ -39,8 +37,8 @@ pub fn mark_of(role: u8, negative: bool) -> u8
     }
 }
 
-// RULES 3.6: what a hidden position shows, the fill, or a blank for B. The kind is asked first, so that a loop over a field's positions need not ask
-// each for B where the fill is a blank.
+// RULES 3.6: what a hidden position shows, the fill, or a blank for B. The kind is asked first, so that a
+// loop over a field's positions need not ask each for B where the fill is a blank.
 pub fn suppressed_of(kind: u8, role: u8) -> u8
     ensures { result ≡ suppressed kind role }
 {
@@ -50,25 +48,10 @@ pub fn suppressed_of(kind: u8, role: u8) -> u8
     b' '
 }
 
-// RULES 1.3: the credit or the debit mark stands at i and ends the text. At the text's end and behind it stands none.
+// RULES 1.3: the credit or the debit mark stands at i and ends the text. At the text's end and behind it
+// stands none.
 pub fn mark_at(text: &[u8], i: usize) -> bool
     ensures { result ≡ is_mark (drop i text.now) }
 {
-    if text.len() <= i {
-        return false;
-    }
-    if text.len() - i != 2 {
-        return false;
-    }
-    let credit = b"CR";
-    let debit = b"DB";
-    let a = text[i];
-    let b = text[i + 1];
-    if a == credit[0] {
-        return b == credit[1];
-    }
-    if a == debit[0] {
-        return b == debit[1];
-    }
-    false
+    i < text.len() && matches!(&text[i..], b"CR" | b"DB")
 }

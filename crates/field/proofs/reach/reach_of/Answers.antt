@@ -1,32 +1,20 @@
--- `reach_of`: no nine has been passed. Assumes nothing.
-use mathlib.Core.Path.{sym, ◌∙◌}
-use lib.ListN.{get_or}
-use Rattle.rules.specs.Roles.{is_nine}
-use Rattle.rules.proofs.Search.{first_here, first_le, first_more}
+-- `reach_of`: the place that `position` finds. Assumes nothing.
+use mathlib.Core.Path.{◌≡◌, ◌∙◌}
 use borrow.Author.Rules.{rules}
-use native.Mathlib.Omega.{arith}
+use lib.ListN.{length}
+use Rattle.std.proofs.Common.{tests}
+use Rattle.std.proofs.lemmas.Iterator.{YieldsList-from_slice}
+use Rattle.std.proofs.lemmas.Iterator.Search.{position_from_yields_List}
+use Rattle.rules.specs.Roles.{is_nine}
+use Rattle.rules.proofs.Search.{first_le}
 use Rattle.field.specs.Results.{nine_in}
+use Rattle.field.proofs.Places.{found_first}
 use Rattle.field.proofs.reach.reach_of.Goals as goal
-
-pub loop-k-init : goal.loop-k-init
-unfolding nine_in
-loop-k-init c =
-    (search rules, omega (arith, c.requires.1, first_le (λ j. is_nine (get_or c.args.roles.now j 0)) c.args.before), c.requires.1)
-
-pub returns-then-is_nine : goal.returns-then-is_nine
-unfolding nine_in
-returns-then-is_nine c =
-    let rs = c.args.roles.now in
-    (sym (first_here (λ j. is_nine (get_or rs j 0)) _ c.loop-k.k c.loop-k.invariant.2 (sym c.is_nine.ensures ∙ c.if-is_nine.true)), c.loop-k.invariant.1, c.loop-k.invariant.0)
-
-pub loop-k-preserved : goal.loop-k-preserved
-unfolding nine_in
-loop-k-preserved c =
-    let rs = c.args.roles.now in
-    (search rules, search rules, first_more (λ j. is_nine (get_or rs j 0)) _ c.loop-k.k c.loop-k.invariant.2 (search rules) (sym c.is_nine.ensures ∙ c.if-is_nine.false))
 
 pub returns : goal.returns
 unfolding nine_in
 returns c =
-    let s = c.args in
-    (omega (arith, c.loop-k.invariant.2, first_le (λ j. is_nine (get_or s.roles.now j 0)) s.before), c.loop-k.invariant.1, c.loop-k.invariant.0)
+    let rs = c.args.roles.now in
+    let o = position_from_yields_List is_nine _ _ _ c.position.ensures.ran (YieldsList-from_slice rs (cc)) (λ x b q k. search (rules, tests)) in
+    let e : c.unwrap_or.result ≡ nine_in rs (length rs) = c.unwrap_or.ensures ∙ found_first is_nine rs c.position.result o in
+    (e, rw e (first_le _ (length rs)))

@@ -1,33 +1,17 @@
--- `any_nine`: none stands behind position k. Assumes nothing.
-use mathlib.Core.Path.{◌≡◌, refl, sym, ◌∙◌}
-use mathlib.Core.Bool.{false}
-use native.Mathlib.Omega.{arith}
-use lib.ListN.{length}
+-- `any_nine`: from either end the answer is the same. Assumes nothing.
+use mathlib.Core.Path.{sym, ◌∙◌}
+use mathlib.Core.List.{reverse}
+use borrow.Author.Rules.{rules}
+use Rattle.std.proofs.Common.{tests}
+use Rattle.std.proofs.lemmas.Iterator.Adapters.{YieldsList-from_rev_slice}
+use Rattle.std.proofs.lemmas.Iterator.Search.{any_from_yields_List}
+use Rattle.std.proofs.lemmas.List.Sorted.{IsPermutation-reverse, list_any-IsPermutation}
 use Rattle.rules.specs.Roles.{is_nine}
-use Rattle.rules.proofs.Lists.{any_behind}
-use Rattle.field.proofs.Loops.{any_back, any_end}
+use Rattle.rules.proofs.Library.{any_is}
 use Rattle.field.proofs.survey.any_nine.Goals as goal
-
-pub loop-k-init : goal.loop-k-init
-loop-k-init c =
-    let rs = c.args.roles.now in
-    (omega arith, sym (any_end is_nine rs (length rs) false (omega arith) refl))
-
-pub returns-then-is_nine : goal.returns-then-is_nine
-returns-then-is_nine c =
-    sym (any_behind is_nine 0 _ c.args.roles.now (omega arith) (omega arith) (sym c.is_nine.ensures ∙ c.if-is_nine.true))
-
-pub loop-k-preserved : goal.loop-k-preserved
-loop-k-preserved c =
-    (omega arith, any_back is_nine c.args.roles.now c.loop-k.k (omega arith) c.loop-k.invariant.0 c.loop-k.invariant.1 (sym c.is_nine.ensures ∙ c.if-is_nine.false))
 
 pub returns : goal.returns
 returns c =
-    let z : c.loop-k.k ≡ 0 = omega arith in
-    sym (rw z at c.loop-k.invariant.1)
-
-pub bounds-roles-k : goal.bounds-roles-k
-bounds-roles-k c = omega arith
-
-pub loop-k-smaller : goal.loop-k-smaller
-loop-k-smaller c = omega arith
+    let rs = c.args.roles.now in
+    any_from_yields_List is_nine _ _ _ c.any.ensures.ran (YieldsList-from_rev_slice rs (cc)) (λ x b q k. search (rules, tests))
+    ∙ sym (list_any-IsPermutation is_nine rs (reverse rs) (IsPermutation-reverse rs)) ∙ any_is is_nine rs

@@ -8,8 +8,8 @@ use Rattle.field.proofs.survey.is_signed.Goals as goal
 
 pub returns-then-sign_drifts : goal.returns-then-sign_drifts
 unfolding has_sign
-returns-then-sign_drifts c = rw (sym c.sign_drifts.ensures ∙ c.if-sign_drifts.true) (sym (or-true (any is_sign c.args.roles.now)))
+returns-then-sign_drifts c = rw (c.if-sign_drifts.true, sym c.sign_drifts.ensures ∙ c.if-sign_drifts.true) (sym (or-true (any is_sign c.args.form.roles.now)))
 
-pub returns : goal.returns
+pub returns-else-sign_drifts : goal.returns-else-sign_drifts
 unfolding has_sign
-returns c = rw (c.any_sign.ensures, sym c.sign_drifts.ensures ∙ c.if-sign_drifts.false) (sym (or-false _))
+returns-else-sign_drifts c = rw (c.any_sign.ensures, sym c.sign_drifts.ensures ∙ c.if-sign_drifts.false) (sym (or-false _))

@@ -4,17 +4,29 @@ use borrow.Author.Tests.{ne_eqb}
 use Rattle.rules.specs.Edit.{list_of}
 use Rattle.roles.proofs.figures.list_of.Goals as goal
 
-pub returns-in-15 : goal.returns-in-15
+pub returns-then-negative : goal.returns-then-negative
 unfolding list_of
-returns-in-15 c = rw c.in-15.is c.chosen.ensures
+returns-then-negative c = rw (c.in-15.is, c.if-negative.true)
 
-pub returns-in-16 : goal.returns-in-16
+pub returns-else-negative : goal.returns-else-negative
 unfolding list_of
-returns-in-16 c = rw c.in-16.is c.chosen-in-16.ensures
+returns-else-negative c = rw (c.in-15.is, c.if-negative.false)
 
-pub returns-in-17 : goal.returns-in-17
+pub returns-then-negative-2 : goal.returns-then-negative-2
 unfolding list_of
-returns-in-17 c = rw c.in-17.is c.chosen-in-17.ensures
+returns-then-negative-2 c = rw (c.in-16.is, c.if-negative-2.true)
+
+pub returns-else-negative-2 : goal.returns-else-negative-2
+unfolding list_of
+returns-else-negative-2 c = rw (c.in-16.is, c.if-negative-2.false)
+
+pub returns-then-negative-3 : goal.returns-then-negative-3
+unfolding list_of
+returns-then-negative-3 c = rw (c.in-17.is, c.if-negative-3.true)
+
+pub returns-else-negative-3 : goal.returns-else-negative-3
+unfolding list_of
+returns-else-negative-3 c = rw (c.in-17.is, c.if-negative-3.false)
 
 pub returns-in_default : goal.returns-in_default
 unfolding list_of

@@ -1,4 +1,5 @@
--- `mark_of`: each arm is a column of the table of marks, and past the table there is nothing. Assumes nothing.
+-- `mark_of`: each arm is a column of the table of marks, and past the table there is nothing. Assumes
+-- nothing.
 use mathlib.Core.Path.{refl}
 use native.Mathlib.Omega.{arith}
 use Rattle.rules.specs.Edit.{mark}

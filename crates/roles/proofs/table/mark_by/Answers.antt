@@ -16,7 +16,7 @@ pub returns-then-column-lt15 : goal.returns-then-column-lt15
 unfolding mark_by
 returns-then-column-lt15 c =
     let l = lt-ltb _ 15 c.if-column-lt15.true in
-    elim c.if-negative.branch [ then-negative w ↦ rw (l, w.if-negative.true, w.row-is) | else-negative w ↦ rw (l, w.if-negative.false, w.row-is) ]
+    elim c.if-negative.branch [ then-negative w ↦ rw (← c.from-column.ensures, l, w.if-negative.true, w.row-is) | else-negative w ↦ rw (← c.from-column.ensures, l, w.if-negative.false, w.row-is) ]
 
 pub returns : goal.returns
 unfolding mark_by
