@@ -6,6 +6,8 @@ use mathlib.Core.Path.{◌≡◌, refl, sym, ◌∙◌}
 use mathlib.Core.Bool.{Bool, true, false, not, ◌&&◌, ◌||◌, true≢false, and_assoc, and-false, and_self, and-true, or-true}
 use mathlib.Core.List.{List, [], ◌∷◌, ◌++◌}
 use mathlib.Core.Option.{none}
+use Rattle.std.specs.Prelude.{None, Some, MatchOption, pos}
+use Rattle.std.specs.Bool.{then_some}
 use Prim.Native.Char.{code}
 use Prim.Native.Nat.{ℕ, zero, suc, ◌+◌, ◌-◌, ◌*◌, ◌^◌, ◌<◌, ◌≤◌, min}
 use native.Mathlib.Nat.{not-suc-le-zero, le_of_suc-le-suc}
@@ -22,8 +24,8 @@ use Rattle.rules.specs.Text.{is_decimal}
 use Rattle.rules.specs.Roles.{drifts, is_b, is_bare, is_digit, is_first_drifting, is_nine, is_punched, is_suppressible, opens}
 use Rattle.rules.specs.Form.{Form, role_at, size}
 use Rattle.rules.specs.Shape.{digit_count, most_digits}
-use Rattle.rules.specs.Edit.{all_suppressible, cell, cell_at, digit_at, drifts_to, field, in_stretch, is_blank, mark, opening, printed, suppressed}
-use Rattle.rules.specs.Candidate.{digit_in, read_of, shown, shown_in, worth_of}
+use Rattle.rules.specs.Edit.{all_suppressible, cell, cell_at, digit_at, drifts_to, field, has_sign, in_stretch, is_blank, mark, opening, printed, signed, suppressed}
+use Rattle.rules.specs.Candidate.{digit_in, option_of, read_of, shown, shown_in, worth_of}
 use Rattle.rules.proofs.Characters.{b_no_digit, digit_shows, digit_small, hidden_blank, hidden_shows, printed_bare, unpunched_char}
 use Rattle.rules.proofs.Digits.{digits_value, ten_le, ten_pos, value_digits, value_snoc}
 use Rattle.rules.proofs.Exact.{shown_digits, shown_length, shown_small}
@@ -33,8 +35,9 @@ use Rattle.rules.proofs.Logic.{both, by_test, eqb_swap, neither}
 use Rattle.rules.proofs.Search.{first_least, length_up_to}
 use Rattle.rules.proofs.Stretch.{drifts_in, drifts_last, early, stretch_from, stretch_in, stretch_to}
 use Rattle.fieldread.specs.declared.zones.Said.{Said}
-use Rattle.fieldread.specs.Zones.{HiddenTo, ShowsHidden, Hides, Led, Stopped, BsBetween, NoB, digit_step, fine_at, has_drift, is_fine, mark_step, marked_at, print_step, said_at, said_in, sides_of, so_far, start_in, value_to, within}
-use Rattle.fieldread.proofs.Cases.{reads_other, reads_zero}
+use Rattle.fieldread.specs.declared.zones.Hidden.{Hidden}
+use Rattle.fieldread.specs.Zones.{HiddenTo, ShowsHidden, Led, Stopped, BsBetween, NoB, digit_step, fine_at, has_drift, is_fine, mark_step, marked_at, print_step, said_at, said_in, sides_of, so_far, start_in, value_to, within}
+use Rattle.fieldread.proofs.Cases.{reads_minus, reads_other, reads_plus, reads_unsigned, reads_zero}
 use Rattle.field.proofs.Loops.{count_part, counted, counted_digit, counted_le, counted_nine, counted_other, counted_zero, opening_here, opening_more, shown_more, shown_same, start_counted}
 
 -- the digits that a field shows are the digits of what they are worth
@@ -43,7 +46,7 @@ unfolding worth_of
 worth_digits φ f = rw (← shown_length φ.roles f) (digits_value (shown φ f) (shown_digits φ.roles f))
 
 -- Tests of every place below n, and two lists compared by them.
-so_false : (p : ℕ → Bool) (n k : ℕ) → k < n → p k ≡ false → so_far p n ≡ false
+pub so_false : (p : ℕ → Bool) (n k : ℕ) → k < n → p k ≡ false → so_far p n ≡ false
 unfolding so_far
 so_false p zero k h e = absurd (not-suc-le-zero h)
 so_false p (suc n) k h e =
@@ -67,7 +70,7 @@ unfolding so_far
 so_both p q zero = refl
 so_both p q (suc n) = rw (so_both p q n) (swap (so_far p n) (so_far q n) (p n) (q n))
 
-so_true : (p : ℕ → Bool) (n : ℕ) → ((k : ℕ) → k < n → p k ≡ true) → so_far p n ≡ true
+pub so_true : (p : ℕ → Bool) (n : ℕ) → ((k : ℕ) → k < n → p k ≡ true) → so_far p n ≡ true
 unfolding so_far
 so_true p zero h = refl
 so_true p (suc n) h = rw (so_true p n (λ k l. h k (omega arith)), h n (omega arith))
@@ -94,7 +97,7 @@ same_part g f (suc n) h =
     let q : length (up_to n g) ≡ length (take n f) = simp (length_up_to, length-take) (omega arith) in
     rw (take-suc f n 0 l, same_snoc (up_to n g) (take n f) _ _ q, same_part g f n (omega arith))
 
-same_places : (g : ℕ → ℕ) (f : List ℕ) (n : ℕ) → length f ≡ n → same (up_to n g) f ≡ so_far (λ k. eqb (g k) (get_or f k 0)) n
+pub same_places : (g : ℕ → ℕ) (f : List ℕ) (n : ℕ) → length f ≡ n → same (up_to n g) f ≡ so_far (λ k. eqb (g k) (get_or f k 0)) n
 same_places g f n l = let t : take n f ≡ f = rw (← l) (take-length f) in rw t at (same_part g f n (omega arith))
 
 -- Characters and roles.
@@ -471,39 +474,33 @@ module _ (φ : Form) (f : List ℕ) where
         unfolding sides_of said_in
         sides_plain e = rw (q, ← all_cells false, ← all_cells true, e, and-true (is_fine φ f && so_far (marked_at φ f false) (size φ)), and-true (is_fine φ f && so_far (marked_at φ f true) (size φ)))
 
-    -- what `hide` has found
-    module _ (from k : ℕ) (b : Led φ f from) (g : HiddenTo φ f k) where
-      pub hides_all : start_in φ f ≤ k → Hides φ f from (record { ok = true; to = k; last = code " " })
-      hides_all s = record { stopped = λ t. stopped_all k g from b s; refused = λ t. absurd (true≢false t) }
+    -- what `hide` has found: printing doesn't start at k, where no hidden position's character stands
+    module _ (k : ℕ) (g : HiddenTo φ f k) (l : k < start_in φ f) (n : ShowsHidden φ f k → ⊥) where
+      -- no B has the drifting character
+      b_off : (j : ℕ) → is_b (role_at φ j) ≡ true → has_drift φ f j ≡ false
+      b_off j e =
+          let w = drifts_in φ (shown φ f) (omega (arith, g.opened l)) in
+          rw (ne_eqb j (drifts_to φ (shown φ f)) (λ q. true≢false (sym e ∙ rw q w.0))) (and-false (drifts φ.kind))
 
-      module _ (l : k < start_in φ f) (n : ShowsHidden φ f k → ⊥) where
-        -- no B has the drifting character
-        b_off : (j : ℕ) → is_b (role_at φ j) ≡ true → has_drift φ f j ≡ false
-        b_off j e =
-            let w = drifts_in φ (shown φ f) (omega (arith, g.opened l)) in
-            rw (ne_eqb j (drifts_to φ (shown φ f)) (λ q. true≢false (sym e ∙ rw q w.0))) (and-false (drifts φ.kind))
+      pub unread_kind : drifts φ.kind ≡ false → read_of φ f ≡ none
+      unread_kind d = unread k (inside k g l) (rw d) n
 
-        pub hides_none : (to last : ℕ) → (drifts φ.kind && not (is_b (role_at φ k))) ≡ false → Hides φ f from (record { ok = false; to = to; last = last })
-        hides_none to last e =
-            let d : has_drift φ f k ≡ false = by_test (is_b (role_at φ k)) (λ q. b_off k q) (λ q. let z : drifts φ.kind ≡ false = rw (q, and-true (drifts φ.kind)) at e in rw z) in
-            record { stopped = λ t. absurd (true≢false (sym t)); refused = λ t. unread k (inside k g l) d n }
+      pub unread_b : is_b (role_at φ k) ≡ true → read_of φ f ≡ none
+      unread_b e = unread k (inside k g l) (b_off k e) n
 
-        module _ (to : ℕ) (d : drifts φ.kind ≡ true) (e : is_b (role_at φ k) ≡ false) (t : BsBetween φ f k to) (u : NoB φ f to) where
-          -- printing doesn't start behind the Bs: the B there shows no blank, or the drifting character stands further right
-          unread_drift : to < start_in φ f → read_of φ f ≡ none
-          unread_drift m =
-              by_test (is_b (role_at φ to))
-              (λ q. unread to (stretch_in φ (shown φ f) to (omega (arith, g.opened l, t.behind)) m) (b_off to q) (u m q))
-              (λ q.
-              let w = drifts_last φ (shown φ f) to m q in
-              unread k (inside k g l) (rw (d, ne_eqb k (drifts_to φ (shown φ f)) (λ z. omega (arith, w.1, t.behind)))) n)
+      -- printing doesn't start behind the Bs either: the B there shows no blank, or the drifting character stands further right
+      unread_drift : (to : ℕ) → drifts φ.kind ≡ true → BsBetween φ f k to → NoB φ f to → to < start_in φ f → read_of φ f ≡ none
+      unread_drift to d t u m =
+          by_test (is_b (role_at φ to))
+          (λ q. unread to (stretch_in φ (shown φ f) to (omega (arith, g.opened l, t.behind)) m) (b_off to q) (u m q))
+          (λ q.
+          let w = drifts_last φ (shown φ f) to m q in
+          unread k (inside k g l) (rw (d, ne_eqb k (drifts_to φ (shown φ f)) (λ z. omega (arith, w.1, t.behind)))) n)
 
-          pub hides_drift : (x : Bool) → x ≡ leb (start_in φ f) to → Hides φ f from (record { ok = x; to = to; last = get_or f k 0 })
-          hides_drift x q =
-              record {
-                stopped = λ y. stopped_drift k to l e t from g d (leb-true _ _ (sym q ∙ y));
-                refused = λ y. unread_drift (leb-false (start_in φ f) to (sym q ∙ y));
-              }
+      pub hides_drift : (from to : ℕ) → drifts φ.kind ≡ true → is_b (role_at φ k) ≡ false → BsBetween φ f k to → NoB φ f to → (x : Bool) → x ≡ leb (start_in φ f) to
+          → MatchOption {T = Hidden} (then_some x (record { to = to; last = get_or f k 0 })) (read_of φ f ≡ none) (λ h. Stopped φ f from h.to h.last)
+      hides_drift from to d e t u true q = stopped_drift k to l e t from g d (leb-true (start_in φ f) to (sym q))
+      hides_drift from to d e t u false q = unread_drift to d t u (leb-false (start_in φ f) to (sym q))
 
   -- Where not everything is suppressed the cells are the field; else all positions are hidden.
   sides_field : (negative : Bool) → is_blank φ (worth_of φ f) ≡ false → same (up_to (size φ) (λ k. cell_at φ (shown φ f) negative k)) f ≡ same (field φ negative (worth_of φ f)) f
@@ -577,3 +574,34 @@ module _ (φ : Form) (f : List ℕ) where
           (by_worth l
           (λ e. let w : worth_of φ f ≡ 0 = sym e ∙ z in rw w)
           (λ s m. by_test (same (field φ false 0) f) (λ e. absurd (s (worth_zero e))) (λ e. e ∙ sym (m false))))
+
+  -- what the sides say, settled
+  module _ (s : Said) (e : s ≡ sides_of φ f) where
+    said_value : s.value ≡ (sides_of φ f).value
+    said_value = rw e
+
+    pub settled_small : digit_count φ ≤ most_digits → s.value < 2 ^ 63
+    settled_small few = omega (arith, said_value, sides_small few)
+
+    pub settled_plus : length f ≡ size φ → same (field φ false (worth_of φ f)) f ≡ true → Some (pos s.value) ≡ option_of (read_of φ f)
+    settled_plus long p = rw (said_value, plus_worth long p, reads_plus φ f p)
+
+    module _ (no_plus : same (field φ false (worth_of φ f)) f ≡ false) where
+      pub settled_zero : length f ≡ size φ → s.value ≡ 0 → None ≡ option_of (read_of φ f)
+      settled_zero long z = rw (unread_zero long (sym said_value ∙ z) no_plus)
+
+      pub settled_unsigned : has_sign φ ≡ false → None ≡ option_of (read_of φ f)
+      settled_unsigned h = rw (reads_unsigned φ f no_plus h)
+
+      module _ (n : s.value ≡ 0 → ⊥) where
+        said_worth : s.value ≡ worth_of φ f
+        said_worth = said_value ∙ sides_worth (λ q. n (said_value ∙ q))
+
+        said_minus : s.minus ≡ same (field φ true (worth_of φ f)) f
+        said_minus = rw e (minus_some (λ q. n (said_worth ∙ q)))
+
+        pub settled_other : s.minus ≡ false → None ≡ option_of (read_of φ f)
+        settled_other m = rw (reads_other φ f no_plus (sym said_minus ∙ m))
+
+        pub settled_minus : s.minus ≡ true → has_sign φ ≡ true → Some (signed true s.value) ≡ option_of (read_of φ f)
+        settled_minus m h = rw (said_worth, reads_minus φ f no_plus (λ q. n (said_worth ∙ q)) h (sym said_minus ∙ m))

@@ -1,18 +1,15 @@
 -- Beyond RULES: what reading in one pass has found before position k, which each step takes one position further, and what the last step
 -- makes of it. proofs/Passing.antt proves that this decides whether the field is that of its value. Assumes nothing.
-use Rattle.std.specs.Prelude.{◌≡◌, Bool, true, false, cond, not, ◌&&◌, ◌||◌, List, ℕ, zero, suc, ◌+◌, ◌*◌, ◌<◌, ◌≤◌, eqb, length, get_or, take}
-use Rattle.std.proofs.Math.Option.{none}
+use Rattle.std.specs.Prelude.{◌≡◌, Bool, true, false, cond, not, ◌&&◌, ◌||◌, List, ℕ, zero, suc, ◌+◌, ◌*◌, ◌<◌, ◌≤◌, eqb, get_or, take}
 use Rattle.rules.specs.Words.{same}
 use Rattle.rules.specs.Search.{up_to}
 use Rattle.rules.specs.Digits.{value_of}
 use Rattle.rules.specs.Text.{is_decimal}
 use Rattle.rules.specs.Roles.{drifts, is_b, is_bare, is_digit}
 use Rattle.rules.specs.Form.{Form, role_at, size}
-use Rattle.rules.specs.Shape.{digit_count, most_digits}
 use Rattle.rules.specs.Edit.{cell_at, drifts_to, in_stretch, mark, opening, printed, start, suppressed}
-use Rattle.rules.specs.Candidate.{digit_in, read_of, shown, shown_in, worth_of}
+use Rattle.rules.specs.Candidate.{digit_in, shown, shown_in, worth_of}
 use Rattle.fieldread.specs.declared.zones.Said.{Said}
-use Rattle.fieldread.specs.declared.zones.Hidden.{Hidden}
 
 -- p holds of every place below k
 unfoldable pub so_far : (ℕ → Bool) → ℕ → Bool
@@ -67,11 +64,6 @@ module _ (φ : Form) (f : List ℕ) where
   unfoldable pub said_in : Said
   said_in = record { value = cond is_fine (worth_of φ f) 0; plus = is_fine && so_far (marked_at false) (size φ); minus = is_fine && so_far (marked_at true) (size φ) }
 
-  -- what the reading is asked of
-  pub record Asked : Type 0 where
-    pub long : length f ≡ size φ
-    pub few : digit_count φ ≤ most_digits
-
   -- printing doesn't start before position k, nor has the opening been passed; it is here unless printing starts
   pub record Led (k : ℕ) : Type 0 where
     pub short : k ≤ start_in
@@ -107,10 +99,6 @@ module _ (φ : Form) (f : List ℕ) where
     pub starts : start_in ≡ to
     pub hides : (k : ℕ) → within k ≡ true → has_drift k ≡ false → ShowsHidden k
     pub ended : drifts φ.kind ≡ true → from < to → get_or f (drifts_to φ (shown φ f)) 0 ≡ last
-
-  pub record Hides (from : ℕ) (h : Hidden) : Type 0 where
-    pub stopped : h.ok ≡ true → Stopped from h.to h.last
-    pub refused : h.ok ≡ false → read_of φ f ≡ none
 
   -- the value said, and whether the field is all cells of what it shows, with plus and with minus
   unfoldable pub sides_of : Said

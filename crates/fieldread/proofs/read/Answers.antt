@@ -1,33 +1,14 @@
--- `read`: the two refusals, and else what the digits shown say. Assumes nothing.
-use borrow.Author.Tests.{ltb-false, ltb-true}
-use mathlib.Core.Path.{sym, ◌∙◌}
-use Prim.Native.Nat.{◌≤◌}
-use native.Mathlib.Omega.{arith}
-use Rattle.rules.specs.Words.{count}
-use Rattle.rules.specs.Roles.{is_digit}
-use Rattle.rules.specs.Form.{formed}
-use Rattle.rules.specs.Shape.{most_digits}
-use Rattle.fieldread.proofs.Cases.{reads_in, reads_long, reads_many}
+-- `read`: no value, or what the digits shown say. Assumes nothing.
+use mathlib.Core.Path.{◌∙◌}
+use Rattle.rules.specs.Form.{form_in}
+use Rattle.fieldread.proofs.Cases.{reads_in, reads_none}
 use Rattle.fieldread.proofs.read.Goals as goal
-use Rattle.fieldread.proofs.read.Goals.{Else-is_many}
 
-pub returns-then-field-roles : goal.returns-then-field-roles
-returns-then-field-roles c = let a = c.args in reads_long (formed a.roles.now a.vee a.kind) a.field.now (λ e. omega arith)
-
-pub returns-then-is_many : goal.returns-then-is_many
-returns-then-is_many c =
-    let a = c.args in
-    reads_many (formed a.roles.now a.vee a.kind) a.field.now (ltb-true most_digits (count is_digit a.roles.now) (sym c.is_many.ensures ∙ c.if-is_many.true))
-
-pub value_in-requires : goal.value_in-requires
-value_in-requires c =
-    let few : (count is_digit c.args.roles.now ≤ most_digits) =
-    ltb-false most_digits _ (sym c.is_many.ensures ∙ c.if-is_many.false) in
-    record { long = omega arith; few = few }
+pub returns-in_err-new : goal.returns-in_err-new
+returns-in_err-new c = c.from_residual.ensures ∙ reads_none (form_in c.args.form) _ (c.in_err-new.ensures)
 
 pub returns : goal.returns
 returns c =
-    let few : (count is_digit c.args.roles.now ≤ most_digits) =
-    ltb-false most_digits _ (sym c.is_many.ensures ∙ c.if-is_many.false) in
-    let a = c.args in
-    c.value_in.ensures ∙ reads_in (formed a.roles.now a.vee a.kind) a.field.now (omega arith) few
+    let v = c.in_ok-new.field-0 in
+    let e = c.in_ok-new.ensures in
+    rw (← e.0, ← e.1) (c.value.ensures ∙ reads_in (form_in v.form) _ v.long v.few)

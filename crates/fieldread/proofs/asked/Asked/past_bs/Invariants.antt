@@ -1,0 +1,13 @@
+-- `past_bs`: a B is no digit, so that printing hasn't started at one. Assumes nothing.
+use mathlib.Core.Path.{◌≡◌}
+use Prim.Native.Nat.{◌-◌, ◌≤◌, min}
+use lib.ListN.{length}
+use Rattle.rules.specs.Form.{form_in}
+use Rattle.fieldread.specs.Zones.{BsBetween}
+use Rattle.fieldread.proofs.asked.Asked.past_bs.Given as goal
+
+abbrev pub invariant-loop-k : goal.invariant-loop-k
+invariant-loop-k l = (l.k ≤ l.end) × (l.end ≡ min l.self.form.vee (length l.self.form.roles.now)) × BsBetween (form_in l.self.form) l.self.field.now l.at l.k
+
+abbrev pub decreases-loop-k : goal.decreases-loop-k
+decreases-loop-k l = l.end - l.k

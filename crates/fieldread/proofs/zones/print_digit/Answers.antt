@@ -1,7 +1,0 @@
--- `print_digit` is the definition. Assumes nothing.
-use Rattle.fieldread.specs.Zones.{digit_step}
-use Rattle.fieldread.proofs.zones.print_digit.Goals as goal
-
-pub returns : goal.returns
-unfolding digit_step
-returns c = rw c.digit_in-d.ensures.0
