@@ -1,4 +1,4 @@
 pub mod Sums
 pub mod Parts
-pub mod Turns
+pub mod Reading
 pub mod Whole

@@ -1,5 +1,6 @@
--- The parts of a plan's bytes, field after field, for whoever walks over them: at field i, whose positions start at byte `at`, the field's part
--- is whole and its form good, and behind it the walk goes on. Assumes nothing.
+-- The parts of a plan's bytes, field after field, for whoever walks over them: at field i, whose positions
+-- start at byte `at`, the field's part is whole and its form good, and behind it the walk goes on. Assumes
+-- nothing.
 use Prim.Native.Nat.{ℕ, ◌+◌, ◌-◌, ◌*◌, ◌<◌, ◌≤◌}
 use mathlib.Core.Path.{◌≡◌, sym, ap, ◌∙◌}
 use mathlib.Core.Bool.{true}

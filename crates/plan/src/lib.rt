@@ -1,71 +1,108 @@
-// Which bytes are a plan: the counts first, then each field's form by its part of the positions. Nothing is compiled again.
+// Which bytes are a plan: the counts first, then each field's form by its part of the positions. Nothing is
+// compiled again.
 #![tactic(auto)]
 
-ghost use Rattle.std.specs.Prelude.{◌≡◌, ◌&&◌, ◌+◌, ◌*◌, ◌<◌, ◌≤◌, length};
-ghost use Rattle.rules.specs.Layout.{most_pictures};
+pub mod walk; // walk.rt: the forms of a plan's fields
+
+ghost use Rattle.std.specs.Prelude.{◌≡◌, ◌&&◌, ◌+◌, ◌*◌, ◌<◌, ◌≤◌, IfOk, cond, length, true};
+ghost use Rattle.rules.specs.Layout.{most_pictures, record_length};
+ghost use Rattle.rules.specs.Numbers.{PLAN};
 ghost use Rattle.rules.specs.PlanBytes.{all_good, forms_in, is_plan};
+ghost use Rattle.rules.specs.Refusals.{result_number};
 ghost use Rattle.rules.proofs.PlanWalk.{field_count};
-ghost use Rattle.shape.specs.Machine.{machine, weights};
-ghost use Rattle.plan.specs.Widths.{TwoBytes, fills_bytes};
+ghost use Rattle.plan.specs.Walk.{all_read};
 
-use rules::MOST_PICTURES;
-use shape::is_good_by;
-use shape::tables::{next_table, weight_table};
+use rules::{MOST_PICTURES, Refusal};
+use shape::machine::Judge;
+use walk::Forms;
 
-// Whether each field has the form of some accepted picture, by the judge's tables, and their positions are all that is left.
-fn all_good(next: &[u8; 285], weight: &[u32; 19], bytes: &[u8], count: usize) -> bool
-    requires { (count ≡ field_count bytes.now) × (count ≤ most_pictures) × (3 * count + 3 ≤ length bytes.now) × (next.now ≡ machine) × (weight.now ≡ weights) }
-    ensures { result ≡ (fills_bytes bytes.now && all_good (forms_in bytes.now)) }
+// Whether each header has its form, the forms take all positions, and each is that of some accepted picture.
+fn all_good(headers: &[u8], positions: &[u8]) -> bool
+    ensures { result ≡ all_read headers.now positions.now }
 {
-    let mut at = 3 * count + 3;
-    for i in 0..count {
-        let n = bytes[1 + 3 * i] as usize;
-        let vee = bytes[2 + 3 * i] as usize;
-        let kind = bytes[3 + 3 * i];
-        if bytes.len() - at < n {
+    let judge = Judge::new();
+    let mut fields = 0;
+    let mut length = 0;
+    for form in (Forms { headers, positions }) {
+        if !judge.is_good(form) {
             return false;
         }
-        let end = at + n;
-        if !is_good_by(next, weight, &bytes[at..end], vee, kind) {
-            return false;
-        }
-        at = end;
+        fields += 1;
+        length += form.roles.len();
     }
-    at == bytes.len()
-}
-
-// The number in the two bytes at `at`, high byte first.
-fn two_bytes(bytes: &[u8], at: usize) -> usize
-    requires { at + 1 < length bytes.now }
-    ensures { TwoBytes bytes.now at result }
-{
-    let high = bytes[at] as usize;
-    let low = bytes[at + 1] as usize;
-    high * 256 + low
+    3 * fields == headers.len() && length == positions.len()
 }
 
 // Whether these bytes are the plan of some accepted layout.
 pub fn is_plan(bytes: &[u8]) -> bool
     ensures { result ≡ is_plan bytes.now }
 {
-    if bytes.len() < 1 {
+    let [count, rest @ ..] = bytes else {
+        return false;
+    };
+    let count = *count as usize;
+    if !(1..=MOST_PICTURES).contains(&count) {
         return false;
     }
-    let count = bytes[0] as usize;
-    if count < 1 {
+    let Some((headers, rest)) = rest.split_at_checked(3 * count) else {
+        return false;
+    };
+    let [high, low, positions @ ..] = rest else {
+        return false;
+    };
+    if u16::from_be_bytes([*high, *low]) as usize != positions.len() {
         return false;
     }
-    if MOST_PICTURES < count {
-        return false;
+    all_good(headers, positions)
+}
+
+// Bytes that are the plan of some accepted layout.
+#[derive(Clone, Copy)]
+pub struct Plan<'a> {
+    bytes: &'a [u8],
+    pub ghost accepted: { is_plan bytes.now ≡ true },
+}
+
+impl<'a> Plan<'a> {
+    ghost use Rattle.plan.specs.Walk.{forms_left};
+
+    // PLAN where the bytes are none (RULES 6.6).
+    pub fn new(bytes: &'a [u8]) -> Result<Plan<'a>, Refusal>
+        ensures plan { IfOk result (λ plan. plan.bytes.now ≡ bytes.now) }
+        ensures number { result_number result ≡ cond (is_plan bytes.now) 0 PLAN }
+    {
+        if !is_plan(bytes) {
+            return Err(Refusal::Plan);
+        }
+        Ok(Plan { bytes })
     }
-    let start = 3 * count + 3;
-    if bytes.len() < start {
-        return false;
+
+    pub fn bytes(self) -> &'a [u8]
+        ensures { result.now ≡ self.entry.bytes.now }
+    {
+        self.bytes
     }
-    if two_bytes(bytes, start - 2) != bytes.len() - start {
-        return false;
+
+    pub fn field_count(self) -> usize
+        ensures { result ≡ field_count self.entry.bytes.now }
+    {
+        self.bytes[0] as usize
     }
-    let next = next_table();
-    let weight = weight_table();
-    all_good(&next, &weight, bytes, count)
+
+    // One byte for each position stands behind the headers and the counts.
+    pub fn record_length(self) -> usize
+        ensures { result ≡ record_length (forms_in self.entry.bytes.now) }
+    {
+        self.bytes.len() - (3 * self.field_count() + 3)
+    }
+    // The form of each field.
+    pub fn forms(self) -> Forms<'a>
+        ensures { forms_left result ≡ forms_in self.entry.bytes.now }
+    {
+        let count = self.field_count();
+        Forms {
+            headers: &self.bytes[1..3 * count + 1],
+            positions: &self.bytes[3 * count + 3..],
+        }
+    }
 }

@@ -1,5 +1,5 @@
--- The sum of the weights holds what the rules count: five counts, seven bits each, since no form that is judged has more than 64 positions. Assumes
--- nothing.
+-- The sum of the weights holds what the rules count: five counts, seven bits each, since no form that is
+-- judged has more than 64 positions. Assumes nothing.
 use Prim.Native.Nat.{ℕ, zero, suc, ◌+◌, ◌<◌, ◌≤◌}
 use mathlib.Core.Path.{◌≡◌, refl, sym, ◌∙◌}
 use mathlib.Core.Bool.{Bool, not, or-false}
@@ -12,7 +12,7 @@ use Rattle.rules.specs.Words.{any, count, one, times}
 use Rattle.rules.specs.Roles.{is_digit, is_first_drifting, is_nine, is_punched, is_sign, is_suppressible, role_limit}
 use Rattle.rules.proofs.Logic.{by_test, eqb_swap}
 use Rattle.rules.proofs.Search.{get_d_up_to}
-use Rattle.shape.specs.declared.Walked.{Walked}
+use Rattle.shape.specs.declared.machine.Walked.{Walked}
 use Rattle.shape.specs.Machine.{column_of, columns, digits_in, dollars_in, drifting_in, is_dollar, summed, signs_in, suppressible_in, walked_all, walked_next, weight_of, weights}
 
 count_more : (p : ℕ → Bool) (r : ℕ) (rs : List ℕ) → count p (r ∷ rs) ≡ one (p r) + count p rs

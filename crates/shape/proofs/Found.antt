@@ -1,5 +1,5 @@
--- By the judge's tables the pass finds what the rules say: the phases at V and at the end decide the rules that the machine holds, the sums the
--- others, one count a rule. Assumes nothing.
+-- By the judge's tables the pass finds what the rules say: the phases at V and at the end decide the rules
+-- that the machine holds, the sums the others, one count a rule. Assumes nothing.
 use Prim.Native.Nat.{ℕ, ◌+◌, ◌<◌, ◌≤◌}
 use mathlib.Core.Path.{◌≡◌, refl, sym, ap, ◌∙◌}
 use mathlib.Core.Bool.{Bool, false, not, ◌&&◌, ◌||◌, and_assoc}

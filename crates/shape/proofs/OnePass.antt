@@ -1,6 +1,7 @@
--- What has been seen decides the rules that the machine holds. Each rule is restated "from here on", with what has been seen as its argument; one
--- role more is then one small law a rule, and the pass takes all rules one role further. V has no part in it: at its place the same pass is
--- looked at once more. Assumes nothing.
+-- What has been seen decides the rules that the machine holds. Each rule is restated "from here on", with
+-- what has been seen as its argument; one role more is then one small law a rule, and the pass takes all
+-- rules one role further. V has no part in it: at its place the same pass is looked at once more. Assumes
+-- nothing.
 use Prim.Native.Nat.{ℕ, zero, suc, ◌-◌}
 use mathlib.Core.Path.{◌≡◌, refl, sym, ap, ◌∙◌}
 use mathlib.Core.Bool.{Bool, true, false, cond, not, ◌&&◌, ◌||◌, and-false, and_assoc, and-true, or-false, false≢true}

@@ -1,5 +1,6 @@
--- The machine's phase is an image of what has been seen: one role further is one step of the table. The rule of the table speaks of what each phase
--- stands for; that all which leads to a phase is led on alike is a test that is computed over all flags, roles just seen and columns. Assumes nothing.
+-- The machine's phase is an image of what has been seen: one role further is one step of the table. The rule
+-- of the table speaks of what each phase stands for; that all which leads to a phase is led on alike is a
+-- test that is computed over all flags, roles just seen and columns. Assumes nothing.
 use Prim.Native.Nat.{ℕ, ◌+◌, ◌<◌, ◌≤◌}
 use mathlib.Core.Path.{◌≡◌, refl, ap, ◌∙◌}
 use mathlib.Core.Bool.{Bool, true, false, cond, not, ◌&&◌, ◌||◌, and-false, false≢true}
@@ -13,7 +14,7 @@ use Rattle.rules.specs.Good.{plain_number}
 use Rattle.rules.proofs.Lists.{all_below, all_below_lem}
 use Rattle.rules.proofs.Logic.{and_at, both, by_test}
 use Rattle.rules.proofs.Search.{get_d_up_to}
-use Rattle.shape.specs.declared.Walked.{Walked}
+use Rattle.shape.specs.declared.machine.Walked.{Walked}
 use Rattle.shape.specs.Machine.{Seen, column_of, columns, entry, keeps, machine, opens_mark, phase_of, seen_all, seen_at, seen_next, seen_none, unbroken, walked_all, walked_next}
 
 -- what holds of all that can be seen, so that a phase leaves nothing to ask
@@ -77,7 +78,8 @@ sane_last : (s : Seen) → s.kept ≡ true → sane s ≡ true → s.last < role
 unfolding sane
 sane_last s k t = let q = rw k at t in ltb-true s.last role_limit (both (ltb s.last role_limit) _ q).0
 
--- The phases: none begins past the last row, and V or the end may stand where no rule is broken and no mark broken off.
+-- The phases: none begins past the last row, and V or the end may stand where no rule is broken and no mark
+-- broken off.
 module _ (k x y p m a n b : Bool) where
   abbrev chosen : ℕ
   chosen = cond (not k) 0 (cond x 19 (cond y 38 (cond (not p) 57 (cond m (cond a 190 (cond n 171 (cond b 152 133))) (cond a 114 (cond n 95 76))))))

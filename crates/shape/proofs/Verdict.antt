@@ -1,5 +1,6 @@
--- What the two findings say: of a plan's field whether its form is good, of a picture, whose form is well made, its shape and its digits. The findings
--- are the rules themselves, so that this is a matter of and. Assumes nothing.
+-- What the two findings say: of a plan's field whether its form is good, of a picture, whose form is well
+-- made, its shape and its digits. The findings are the rules themselves, so that this is a matter of and.
+-- Assumes nothing.
 use Prim.Native.Nat.{ℕ, ◌+◌, ◌≤◌}
 use mathlib.Core.Path.{◌≡◌}
 use mathlib.Core.Bool.{true, ◌&&◌, and-false, and_assoc, and-true}

@@ -6,7 +6,8 @@ use Rattle.rules.specs.Shape.{digits_fit, form_shape}
 use Rattle.rules.specs.Good.{bears, in_order, marks_last, one_dollar}
 use Rattle.shape.specs.declared.Judged.{Judged}
 
--- the rules that speak of the roles, their kind and V: those of shape, and those that tell the forms that accepted pictures have
+-- the rules that speak of the roles, their kind and V: those of shape, and those that tell the forms that
+-- accepted pictures have
 unfoldable pub ruled : Form → Bool
 ruled φ =
     in_order (leb φ.kind 2) φ.roles && (bears φ.kind φ.roles && (one_dollar φ && (marks_last φ.vee φ.roles && form_shape φ)))

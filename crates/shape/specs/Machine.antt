@@ -1,6 +1,7 @@
--- Beyond RULES: the rules of shape as the code runs them: a machine, whose phase holds what the roles to come ask of those before, and a sum of
--- weights, which holds what the rules count. The entries of both tables are written down in src/tables.rt alone; here is the rule that they follow.
--- proofs/Found.antt proves that by these tables the code finds what the rules say. Assumes nothing.
+-- Beyond RULES: the rules of shape as the code runs them: a machine, whose phase holds what the roles to come
+-- ask of those before, and a sum of weights, which holds what the rules count. The entries of both tables are
+-- written down in src/tables.rt alone; here is the rule that they follow. proofs/Found.antt proves that by
+-- these tables the code finds what the rules say. Assumes nothing.
 use Rattle.std.specs.Prelude.{ℕ, suc, ◌+◌, ◌*◌, ◌/◌, ◌%◌, Bool, true, false, cond, not, ◌&&◌, ◌||◌, List, [], ◌∷◌, leb, ltb, eqb, get_or, take, drop}
 use Rattle.rules.specs.Words.{one}
 use Rattle.rules.specs.Search.{up_to}
@@ -9,7 +10,7 @@ use Rattle.rules.specs.Roles.{drifts_sign, is_digit, is_first_drifting, is_nine,
 use Rattle.rules.specs.Form.{Form, size}
 use Rattle.rules.specs.Shape.{most_digits}
 use Rattle.rules.specs.Good.{fits_room, plain_number}
-use Rattle.shape.specs.declared.Walked.{Walked}
+use Rattle.shape.specs.declared.machine.Walked.{Walked}
 use Rattle.shape.specs.declared.Judged.{Judged}
 
 -- What the roles seen so far leave to ask.
@@ -69,8 +70,8 @@ columns = suc role_limit
 unfoldable pub column_of : ℕ → ℕ
 column_of r = cond (ltb r role_limit) r role_limit
 
--- The phase: where its row begins. From `unbroken` on no rule is broken and no mark broken off; before come a broken rule and the first letters of
--- the marks.
+-- The phase: where its row begins. From `unbroken` on no rule is broken and no mark broken off; before come a
+-- broken rule and the first letters of the marks.
 abbrev pub unbroken : ℕ
 unbroken = 57
 
@@ -93,8 +94,8 @@ seen_at p = record {
   nine = eqb p 95 || (eqb p 114 || eqb p 171);
 }
 
--- The table, row by row: where a role leads from what the row's phase stands for. No row begins past 190; behind its row the table goes on with
--- zeros, so that a step from any byte stays inside.
+-- The table, row by row: where a role leads from what the row's phase stands for. No row begins past 190;
+-- behind its row the table goes on with zeros, so that a step from any byte stays inside.
 unfoldable pub entry : ℕ → ℕ
 entry k = cond (leb k 208) (phase_of (seen_next (seen_at (k / columns * columns)) (k % columns))) 0
 
@@ -144,8 +145,8 @@ drifting_in sum = sum / 268435456
 abbrev pub born_out : ℕ → Bool → Bool
 born_out kind borne = cond (eqb kind 0) (not borne) borne
 
--- what stands at V and at the end decides: neither breaks off a mark, and of suppressible digits and first drifting symbols none is counted behind V
--- that may not stand there
+-- what stands at V and at the end decides: neither breaks off a mark, and of suppressible digits and first
+-- drifting symbols none is counted behind V that may not stand there
 unfoldable pub found_in : ℕ → Walked → Walked → Judged
 found_in kind at end = record {
   shaped =
@@ -159,7 +160,8 @@ found_in kind at end = record {
   digits = leb 1 (digits_in end.sum) && leb (digits_in end.sum) most_digits;
 }
 
--- what the pass by these tables finds of a form, and whether it then takes the form for that of an accepted picture
+-- what the pass by these tables finds of a form, and whether it then takes the form for that of an accepted
+-- picture
 module _ (next weight : List ℕ) (φ : Form) where
   abbrev pub walked_to : Walked
   walked_to = walked_all next weight (started φ.kind) (take φ.vee φ.roles)

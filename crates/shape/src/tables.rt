@@ -1,13 +1,12 @@
-// The judge's two tables, handed out by value: whoever judges copies them once and lends them down to each step.
-ghost use Rattle.std.specs.Prelude.{◌≡◌};
-ghost use Rattle.shape.specs.Machine.{machine, weights};
+// The entries of the judge's tables, written down here alone.
 
-// The phase behind each role: a row for each phase, named by where it begins, and in it a column for each role, as the row of 133
-// names them. The columns are all taken: a role more widens every row, so that every phase gets another number, here, in `start`
-// and UNBROKEN and in the rule's definition, and it has a number in WEIGHT. A phase is a byte and no row may begin past 255, so the
-// 11 rows have room for 25 columns each. No row begins past 190; the zeros behind its row are there so that a step from any byte
-// stays inside the table.
-const NEXT: [u8; 285] = [
+// The phase behind each role: a row for each phase, named by where it begins, and in it a column for each
+// role, as the row of 133 names them. The columns are all taken: a role more widens every row, so that every
+// phase gets another number, here, in `start` and UNBROKEN and in the rule's definition, and it has a number
+// in WEIGHT. A phase is a byte and no row may begin past 255, so the 11 rows have room for 25 columns each.
+// No row begins past 190; the zeros behind its row are there so that a step from any byte stays inside the
+// table.
+pub(crate) const NEXT: [u8; 285] = [
     // 0: a rule is broken
     0, 0, 0, 0, 0, 0, 0, 0, 0, 0, 0, 0, 0, 0, 0, 0, 0, 0, 0,
     // 19: behind C of a mark
@@ -57,23 +56,11 @@ const NEXT: [u8; 285] = [
     0, 0, 0, 0, 0, 0, 0, 0, 0, 0, 0,
 ];
 
-// 1 for a digit, 128 more for a suppressible one, 16,384 for a sign, 2,097,152 for a $, 268,435,456 for the first drifting symbol.
-// A punched sign is a digit too.
-const WEIGHT: [u32; 19] = [
+// 1 for a digit, 128 more for a suppressible one, 16,384 for a sign, 2,097,152 for a $, 268,435,456 for the
+// first drifting symbol. A punched sign is a digit too.
+pub(crate) const WEIGHT: [u32; 19] = [
     1, 129, 268435456, 16384, 16384, 16384, 2097152, 0, 0, 0, 0, 16384, 0, 16384, 0, 16385, // T
     16385, // I
     16385, // R
     16385, // no role, which the machine refuses
 ];
-
-pub fn next_table() -> [u8; 285]
-    ensures { result ≡ machine }
-{
-    NEXT
-}
-
-pub fn weight_table() -> [u32; 19]
-    ensures { result ≡ weights }
-{
-    WEIGHT
-}
