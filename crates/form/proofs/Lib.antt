@@ -1,3 +1,4 @@
-pub mod Counts
+pub mod Lent
 pub mod Numbering
 pub mod Rows
+pub mod Symbols

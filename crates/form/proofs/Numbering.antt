@@ -1,11 +1,13 @@
--- The kind of a picture can be counted by its symbols: the positions with number k are those with the symbol of kind k. Assumes nothing.
-use Prim.Native.Nat.{ℕ, suc, ◌+◌, ◌-◌, ◌<◌, ◌≤◌}
+-- The kind of a picture can be counted by its symbols: the positions with number k are those with the symbol
+-- of kind k. Assumes nothing.
+use Prim.Native.Nat.{ℕ, zero, suc, ◌+◌, ◌-◌, ◌≤◌}
 use Prim.Native.Char.{code}
 use mathlib.Core.Path.{◌≡◌, refl, sym, ap, ◌∙◌}
-use mathlib.Core.Bool.{Bool, true, false, true≢false, not, ◌&&◌, ◌||◌}
+use mathlib.Core.Bool.{Bool, true, false, true≢false, cond, not, ◌&&◌, ◌||◌}
 use mathlib.Core.List.{List, [], ◌∷◌}
 use native.Mathlib.Omega.{arith}
-use borrow.Author.Tests.{eqb-true, eqb-false, eq-eqb, ne_eqb, leb-true, le-leb, lt-leb, not-true}
+use mir.Val.{bool_byte}
+use borrow.Author.Tests.{eqb-true, eqb-false, eq-eqb, ne_eqb, leb-true, le-leb, not-true}
 use lib.Dec.{eqb, leb}
 use lib.ListN.{get_or}
 use Rattle.rules.specs.Words.{text, has, one, times, place, same}
@@ -68,57 +70,38 @@ module _ (k : ℕ) (p : 1 ≤ k) (q : k ≤ 6) where
       (λ v. rw (numbers_v b s e v, eqb-true b the_v v, no_v k q) (omega arith))
       (λ v. rw (numbers_other b s e v, number_letter b) (omega arith)))
 
--- `does_suppress`, either way: b is the symbol of the kind and n how often it stands
-module _ (k b n : ℕ) (s : List ℕ) (p : 1 ≤ k) (q : k ≤ 6) (l : b ≡ kind_letter k) (e : n ≡ times b s) where
-  pub once : k ≤ 2 → leb 1 n ≡ suppresses k (numbers s)
-  unfolding suppresses
-  once h = rw (le-leb k 2 h, times_letter k p q s, e, l)
+-- `does_suppress`: b is the symbol of the kind and n how often it stands
+pub enough_is : (k b n e : ℕ) (s : List ℕ) → 1 ≤ k → k ≤ 6 → b ≡ kind_letter k → n ≡ times b s → e ≡ cond (leb k 2) 1 2 → leb e n ≡ suppresses k (numbers s)
+unfolding suppresses
+enough_is k b n e s p q l t h = rw (times_letter k p q s, h, t, l)
 
-  pub twice : 2 < k → leb 2 n ≡ suppresses k (numbers s)
-  unfolding suppresses
-  twice h = rw (lt-leb k 2 h, times_letter k p q s, e, l)
+-- the last kind that suppresses, from above
+pub kind_here : (k : ℕ) (ns : List ℕ) → 1 ≤ k → suppresses k ns ≡ true → kind_up_to k ns ≡ k
+unfolding kind_up_to
+kind_here zero ns p e = absurd (omega arith)
+kind_here (suc k) ns p e = rw e
 
--- the loop over the kinds: j of them have been asked, and `r` says whether the next one suppresses
-module _ (j : ℕ) (ns : List ℕ) (r : Bool) (e : r ≡ suppresses (suc j) ns) where
-  kind_hit : r ≡ true → (suc j ≡ kind_up_to (suc j) ns) × (suppressing j ns + 1 ≡ suppressing (suc j) ns)
-  unfolding kind_up_to suppressing
-  kind_hit t = rw (← e, t) (refl, omega arith)
+pub kind_below : (k : ℕ) (ns : List ℕ) → 1 ≤ k → suppresses k ns ≡ false → kind_up_to k ns ≡ kind_up_to (k - 1) ns
+unfolding kind_up_to
+kind_below zero ns p e = absurd (omega arith)
+kind_below (suc k) ns p e = let z : suc k - 1 ≡ k = omega arith in rw (e, z)
 
-  kind_miss : r ≡ false → (kind_up_to j ns ≡ kind_up_to (suc j) ns) × (suppressing j ns ≡ suppressing (suc j) ns)
-  unfolding kind_up_to suppressing
-  kind_miss t = rw (← e, t) (refl, omega arith)
+-- how many suppress, from below
+pub kinds_more : (k : ℕ) (ns : List ℕ) → 1 ≤ k → suppressing k ns ≡ suppressing (k - 1) ns + one (suppresses k ns)
+unfolding suppressing
+kinds_more zero ns p = absurd (omega arith)
+kinds_more (suc k) ns p = let z : suc k - 1 ≡ k = omega arith in rw z (omega arith)
 
--- what the loop keeps: the kinds before k have been asked
-pub record Asked (k kind kinds : ℕ) (ns : List ℕ) : Type 0 where
-  pub from : 1 ≤ k
-  pub kind_is : kind ≡ kind_up_to (k - 1) ns
-  pub kinds_are : kinds ≡ suppressing (k - 1) ns
-  pub few : kinds < k
+pub kinds_le : (k : ℕ) (ns : List ℕ) → suppressing k ns ≤ k
+unfolding suppressing
+kinds_le zero ns = omega arith
+kinds_le (suc k) ns =
+    let n = kinds_le k ns in
+    by_test (suppresses (suc k) ns) (λ e. rw e (omega arith)) (λ e. rw e (omega arith))
 
-pub asked_none : (ns : List ℕ) → Asked 1 0 0 ns
-unfolding kind_up_to suppressing
-asked_none ns = record { from = omega arith; kind_is = refl; kinds_are = refl; few = omega arith }
-
-module _ (k kind kinds : ℕ) (ns : List ℕ) (h : Asked k kind kinds ns) (r : Bool) (e : r ≡ suppresses k ns) where
-  -- kind' and kinds' are what the turn leaves
-  pub asked_hit : (kind' kinds' : ℕ) → r ≡ true → kind' ≡ k → kinds' ≡ kinds + 1 → Asked (k + 1) kind' kinds' ns
-  asked_hit kind' kinds' t x y =
-      let j = k - 1 in
-      let q : k ≡ suc j = omega (arith, h.from) in
-      let z : k + 1 - 1 ≡ suc j = omega (arith, h.from) in
-      let w = kind_hit j ns r (rw (← q) e) t in
-      record { from = omega arith; kind_is = rw z (x ∙ q ∙ w.0); kinds_are = rw (z, y, h.kinds_are) w.1; few = omega (arith, h.few) }
-
-  pub asked_miss : (kind' kinds' : ℕ) → r ≡ false → kind' ≡ kind → kinds' ≡ kinds → Asked (k + 1) kind' kinds' ns
-  asked_miss kind' kinds' t x y =
-      let j = k - 1 in
-      let q : k ≡ suc j = omega (arith, h.from) in
-      let z : k + 1 - 1 ≡ suc j = omega (arith, h.from) in
-      let w = kind_miss j ns r (rw (← q) e) t in
-      record { from = omega arith; kind_is = rw z (x ∙ h.kind_is ∙ w.0); kinds_are = rw z (y ∙ h.kinds_are ∙ w.1); few = omega (arith, h.few) }
-
-pub asked_all : (kind kinds : ℕ) (ns : List ℕ) → Asked 7 kind kinds ns → (kind ≡ kind_up_to last_kind ns) × (kinds ≡ suppressing last_kind ns)
-asked_all kind kinds ns h = (h.kind_is, h.kinds_are)
+pub byte_one : (b : Bool) → bool_byte b ≡ one b
+byte_one true = refl
+byte_one false = refl
 
 -- at most one kind suppresses: RULES 2.6 and 2.7
 pub one_kind : (s : List ℕ) → leb (suppressing last_kind (numbers s)) 1 ≡ (one_drifts s && suppression_apart s)

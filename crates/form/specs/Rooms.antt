@@ -1,45 +1,42 @@
--- A form in rooms of fixed size, as the code has it. Assumes nothing.
-use Rattle.std.specs.Prelude.{ℕ, ◌-◌, ◌≡◌, Bool, cond, ◌||◌, List, [], ◌∷◌, ◌++◌, eqb, length, get_or, take, replicate}
+-- A form in rooms of fixed size, as the code has it, and how its positions are placed there. Assumes nothing.
+use Rattle.std.specs.Prelude.{ℕ, ◌+◌, ◌-◌, Bool, cond, ◌||◌, List, [], ◌∷◌, ◌++◌, leb, eqb, length, get_or, take, replicate}
 use Prim.Native.Char.{code}
+use Rattle.std.proofs.Math.ListN.{set}
 use Rattle.rules.specs.Words.{text}
 use Rattle.rules.specs.Text.{most_symbols}
-use Rattle.rules.specs.Roles.{last_kind}
-use Rattle.rules.specs.Form.{Form, kind_of, of_kind}
-use Rattle.rules.specs.Good.{suppressing}
-use Rattle.form.specs.declared.Roles.{Roles}
+use Rattle.rules.specs.Form.{Form, formed, of_kind}
 use Rattle.form.specs.declared.Placed.{Placed}
-use Rattle.form.specs.declared.Suppression.{Suppression}
 use Rattle.form.specs.declared.Meaning.{Meaning}
 
 -- the symbol of each kind from 1 on
 unfoldable pub kind_letter : ℕ → ℕ
 kind_letter k = get_or (0 ∷ text "Z*S+-$") k 0
 
--- the role of a position whose symbol has this number
-unfoldable pub role_of : ℕ → Bool → ℕ → ℕ
-role_of k met c = cond (of_kind k c) (cond met 1 2) c
-
--- the room that holds these roles, and the roles in a room
-unfoldable pub roles_room : List ℕ → Roles
-roles_room rs = record { at = rs ++ replicate (most_symbols - length rs) 0; count = length rs }
-
-unfoldable pub roles_held : Roles → List ℕ
-roles_held room = take room.count room.at
-
--- a room that holds just its roles: every unused place is 0
-unfoldable pub Whole : Roles → Type 0
-Whole room = room ≡ roles_room (roles_held room)
-
--- one position more, whose symbol has this number
-unfoldable pub placed_in : Placed → ℕ → ℕ → Placed
-placed_in p k c = record { roles = roles_room (roles_held p.roles ++ (role_of k p.met c ∷ [])); met = p.met || of_kind k c }
-
 -- the number of a mark's first letter
 unfoldable pub mark_number : ℕ → ℕ
 mark_number b = cond (eqb b (code "C")) 11 13
 
-unfoldable pub suppression_of : List ℕ → Suppression
-suppression_of ns = record { kind = kind_of ns; kinds = suppressing last_kind ns }
-
+-- the form with its roles in a room of 64, 0 behind them, and the form in such rooms
 unfoldable pub meaning_of : Form → Meaning
 meaning_of φ = record { roles = φ.roles ++ replicate (most_symbols - length φ.roles) 0; size = length φ.roles; vee = φ.vee; kind = φ.kind }
+
+unfoldable pub meant : Meaning → Form
+meant m = formed (take m.size m.roles) m.vee m.kind
+
+-- the role of a position whose symbol has this number
+unfoldable pub role_of : ℕ → Bool → ℕ → ℕ
+role_of k met c = cond (of_kind k c) (cond met 1 2) c
+
+-- no position yet, one more, whose symbol has this number, and all whose symbols have these
+unfoldable pub begun : ℕ → ℕ → Placed
+begun vee kind = record { form = meaning_of (formed [] vee kind); met = leb kind 2 }
+
+unfoldable pub placed_in : Placed → ℕ → Placed
+placed_in p c = record {
+  form = record p.form { roles = set p.form.roles p.form.size (role_of p.form.kind p.met c); size = p.form.size + 1 };
+  met = p.met || of_kind p.form.kind c;
+}
+
+unfoldable pub finished : Placed → List ℕ → Meaning
+finished p [] = p.form
+finished p (c ∷ cs) = finished (placed_in p c) cs

@@ -1,30 +1,61 @@
--- The walk over a text's bytes finds what `expand` says: it ends in the plain mode exactly where every byte and factor is allowed, and the
--- symbols that it gave are then those of the text. Assumes nothing.
-use Prim.Native.Nat.{ℕ, zero, suc, ◌+◌, ◌-◌, ◌*◌, ◌<◌, ◌≤◌}
-use mathlib.Core.Path.{◌≡◌, refl, sym, ◌∙◌}
+-- The walk over a text's bytes finds what `expand` says. Assumes nothing.
+use Prim.Native.Nat.{ℕ, zero, suc, ◌+◌, ◌-◌, ◌*◌, ◌<◌, ◌≤◌, min}
+use mathlib.Core.Path.{◌≡◌, refl, sym, ap, ◌∙◌}
 use mathlib.Core.Bool.{Bool, true, false, cond, ◌&&◌, and-false}
-use mathlib.Core.List.{List, [], ◌∷◌, ◌++◌}
-use mathlib.Core.Option.{none, some}
+use mathlib.Core.List.{List, [], ◌∷◌, ◌++◌, append_assoc, append-nil}
+use mathlib.Core.Option.{Option, none, some}
 use native.Mathlib.Nat.{sub-zero, add-zero, zero-add, add_assoc}
 use native.Mathlib.Numerals.{add-one}
 use native.Mathlib.Omega.{arith}
-use lib.ListN.{length, set, replicate, get_or, drop, length-append, length-replicate, drop_of_length-le}
-use lib.Seq.{sets, sets-eq, drop-cons}
+use borrow.Author.Tests.{leb-true, leb-false}
+use lib.Dec.{leb}
+use lib.ListN.{length, take, replicate, get_or, drop, length-append, length-replicate, drop_of_length-le}
+use lib.Seq.{sets, sets-eq, set_out, length-sets, take_all, drop-cons, drop-drop}
+use Rattle.std.proofs.lemmas.List.{replicate-append-replicate}
+use Rattle.std.specs.Prelude.{Ok, Err}
 use Rattle.rules.specs.declared.Mode.{Mode}
 use Rattle.rules.specs.declared.Mode.TheVariants.{Plain, Opened, OneDigit, TwoDigits, Closed, Spoilt}
 use Rattle.rules.specs.declared.Picture.{Picture}
-use Rattle.rules.specs.Text.{is_plain, is_mark, next, copies, ended, onto, expand_from, is_some, is_spelled, symbols_of, most_symbols, room_of}
+use Rattle.rules.specs.declared.Refusal.TheVariants.{Symbol}
+use Rattle.rules.specs.Text.{is_plain, is_mark, next, copies, ended, onto, expand_from, most_symbols, room_of}
 use Rattle.rules.proofs.Logic.{by_test}
 use Rattle.rules.proofs.Lists.{sets_append}
-use Rattle.text.specs.Expansion.{ends_in, gives, filled}
+use Rattle.text.specs.Expansion.{filled, filled_by, spelled_of}
 
 -- Writing into a room.
 
-pub fill_step : (out : List ℕ) (at n k b : ℕ) → k < n → sets out (at + k) (replicate (n - k) b) ≡ sets (set out (at + k) b) (at + (k + 1)) (replicate (n - (k + 1)) b)
-fill_step out at n k b h =
-    let e : n - k ≡ suc (n - (k + 1)) = omega arith in
-    let f : at + (k + 1) ≡ suc (at + k) = omega arith in
-    rw (e, f)
+-- what falls outside is dropped
+sets_out : (xs out : List ℕ) (i : ℕ) → length out ≤ i → sets out i xs ≡ out
+sets_out [] out i h = refl
+sets_out (x ∷ xs) out i h = rw (set_out out i x h) (sets_out xs out (suc i) (omega arith))
+
+fill_inside : (s : List ℕ) (i n b : ℕ) → i + n ≤ length s → sets s i (replicate n b) ≡ take i s ++ (replicate n b ++ drop n (drop i s))
+fill_inside s i n b h = sets-eq (replicate n b) s i (rw length-replicate h) ∙ rw (length-replicate, append_assoc, drop-drop) refl
+
+-- n copies of b from place i on, in the places that a room of 64 has for them
+pub fill_is : (s : List ℕ) (i n b : ℕ) → length s ≡ 64
+    → take (min i 64) s ++ (replicate (min (i + n) 64 - min i 64) b ++ drop (min (i + n) 64 - min i 64) (drop (min i 64) s)) ≡ sets s i (replicate n b)
+fill_is s i n b l =
+    by_test (leb (i + n) 64)
+    (λ t.
+    let h = leb-true (i + n) 64 t in
+    let x : min i 64 ≡ i = omega arith in
+    let y : min (i + n) 64 - i ≡ n = omega arith in
+    rw (x, y) (sym (fill_inside s i n b (omega arith))))
+    (λ t. by_test (leb i 64)
+    (λ u.
+    let h = leb-false (i + n) 64 t in
+    let g = leb-true i 64 u in
+    let x : min i 64 ≡ i = omega arith in
+    let y : min (i + n) 64 - i ≡ 64 - i = omega arith in
+    let z : 64 - i + (n - (64 - i)) ≡ n = omega arith in
+    let w : replicate n b ≡ replicate (64 - i) b ++ replicate (n - (64 - i)) b = rw (replicate-append-replicate, z) in
+    rw (x, y) (sym (rw w (sets_append (replicate (64 - i) b) _ s i ∙ sets_out (replicate (n - (64 - i)) b) (sets s i (replicate (64 - i) b)) (i + length (replicate (64 - i) b)) (rw (length-sets, length-replicate) (omega arith)) ∙ fill_inside s i (64 - i) b (omega arith)))))
+    (λ u.
+    let g = leb-false i 64 u in
+    let x : min i 64 ≡ 64 = omega arith in
+    let y : min (i + n) 64 - 64 ≡ 0 = omega arith in
+    rw (x, y) (rw (drop_of_length-le s {i = 64} (omega arith), append-nil) (take_all 64 s (omega arith) ∙ sym (sets_out (replicate n b) s i (omega arith))))))
 
 pub filled_append : (p : Picture) (xs ys : List ℕ) → filled (filled p xs) ys ≡ filled p (xs ++ ys)
 unfolding filled
@@ -43,47 +74,21 @@ pub filled_room : (xs : List ℕ) → length xs ≤ most_symbols → filled (roo
 unfolding filled room_of
 filled_room xs h = let e = fill_room 64 xs h in let z : 0 + length xs ≡ length xs = zero-add (length xs) in rw (e, z)
 
--- The walk and the expansion.
+-- The walk.
 
-walk_ends : (m : Mode) → ended m ≡ cond (is_plain m) (some []) none
-walk_ends Plain = refl
-walk_ends Opened = refl
-walk_ends (OneDigit n) = refl
-walk_ends (TwoDigits n) = refl
-walk_ends (Closed n) = refl
-walk_ends Spoilt = refl
+pub filled_onto : (p : Picture) (xs : List ℕ) (o : Option (List ℕ)) → filled_by (filled p xs) o ≡ filled_by p (onto xs o)
+filled_onto p xs none = refl
+filled_onto p xs (some ys) = ap Ok (filled_append p xs ys)
 
-onto_cond : (b : Bool) (xs ys : List ℕ) → onto xs (cond b (some ys) none) ≡ cond b (some (xs ++ ys)) none
-onto_cond true xs ys = refl
-onto_cond false xs ys = refl
-
-walk_expands : (m : Mode) (t : List ℕ) → expand_from m t ≡ cond (is_plain (ends_in m t)) (some (gives m t)) none
-unfolding expand_from ends_in gives
-walk_expands m [] = walk_ends m
-walk_expands m (b ∷ s) =
-    by_test (is_plain m && is_mark (b ∷ s)) (λ e. rw e)
-    (λ e. rw (e, walk_expands (next m b) s) (onto_cond (is_plain (ends_in (next m b) s)) _ _))
-
-pub walk_spelled : (t : List ℕ) → is_spelled t ≡ is_plain (ends_in Plain t)
-walk_spelled t = rw (walk_expands Plain t) (at (is_plain (ends_in Plain t)))
-  where
-    at : (b : Bool) → is_some (cond b (some (gives Plain t)) none) ≡ b
-    at true = refl
-    at false = refl
-
-pub walk_symbols : (t : List ℕ) → is_plain (ends_in Plain t) ≡ true → symbols_of t ≡ gives Plain t
-walk_symbols t e = rw (walk_expands Plain t, e)
-
--- The loop: what is left of the text, from this mode and into this room, gives what the whole text gives.
+-- what the loop keeps: what is left of the text, from this mode and into this room, gives what the whole text
+-- gives
 pub record Head (t : List ℕ) (m : Mode) (p : Picture) (i : ℕ) : Type 0 where
-  pub within : i ≤ length t
   pub small : p.count ≤ 64 * i
-  pub ends : ends_in Plain t ≡ ends_in m (drop i t)
-  pub fills : filled (room_of []) (gives Plain t) ≡ filled p (gives m (drop i t))
+  pub rest : filled_by p (expand_from m (drop i t)) ≡ spelled_of t
 
 pub head_none : (t : List ℕ) → Head t Plain (room_of []) 0
-unfolding room_of
-head_none t = record { within = omega arith; small = omega arith; ends = refl; fills = refl }
+unfolding room_of spelled_of
+head_none t = record { small = omega arith; rest = refl }
 
 module _ (t : List ℕ) (m : Mode) (p : Picture) (i : ℕ) (l : i < length t) (h : Head t m p i) where
   left : drop i t ≡ get_or t i 0 ∷ drop (i + 1) t
@@ -92,23 +97,23 @@ module _ (t : List ℕ) (m : Mode) (p : Picture) (i : ℕ) (l : i < length t) (h
   -- one byte more
   pub head_more : (n : ℕ) → n ≡ copies m (get_or t i 0) → n ≤ 64 → (is_plain m && is_mark (drop i t)) ≡ false
       → Head t (next m (get_or t i 0)) (filled p (replicate n (get_or t i 0))) (i + 1)
-  unfolding ends_in gives
-  head_more n e s q =
+  unfolding expand_from
+  head_more n e k q =
       let r = rw left at q in
+      let x : (expand_from m (drop i t) ≡ onto (replicate n (get_or t i 0)) (expand_from (next m (get_or t i 0)) (drop (i + 1) t))) = rw (left, r, e) in
       record {
-        within = omega arith;
         small = unfold filled in rw length-replicate (omega (arith, h.small));
-        ends = h.ends ∙ rw (left, r);
-        fills = h.fills ∙ rw (left, r, ← e) (sym (filled_append p (replicate n (get_or t i 0)) _));
+        rest = filled_onto p _ _ ∙ ap (filled_by p) (sym x) ∙ h.rest;
       }
 
   -- the mark
   pub head_mark : (a b : ℕ) → is_plain m ≡ true → is_mark (drop i t) ≡ true → drop i t ≡ a ∷ b ∷ []
-      → (ends_in Plain t ≡ Plain) × (filled (room_of []) (gives Plain t) ≡ filled (filled p (replicate 1 a)) (replicate 1 b))
-  unfolding ends_in gives
+      → Ok (filled (filled p (replicate 1 a)) (replicate 1 b)) ≡ spelled_of t
+  unfolding expand_from
   head_mark a b e q d =
       let r = rw d at q in
-      (h.ends ∙ rw (d, e, r), h.fills ∙ rw (d, e, r) (sym (filled_append p (a ∷ []) (b ∷ []))))
+      let x : (expand_from m (drop i t) ≡ some (a ∷ b ∷ [])) = rw (d, e, r) in
+      ap Ok (filled_append p (a ∷ []) (b ∷ [])) ∙ ap (filled_by p) (sym x) ∙ h.rest
 
 -- no mark ends the text here
 pub not_plain : (r : Bool) (m : Mode) (s : List ℕ) → r ≡ is_plain m → r ≡ false → (is_plain m && is_mark s) ≡ false
@@ -117,6 +122,23 @@ not_plain r m s e q = rw (← e, q)
 pub not_mark : (r : Bool) (m : Mode) (s : List ℕ) → r ≡ is_mark s → r ≡ false → (is_plain m && is_mark s) ≡ false
 not_mark r m s e q = rw (← e, q) (and-false (is_plain m))
 
-pub head_done : (t : List ℕ) (m : Mode) (p : Picture) (i : ℕ) → length t ≤ i → Head t m p i → (ends_in Plain t ≡ m) × (filled (room_of []) (gives Plain t) ≡ p)
-unfolding ends_in gives filled
-head_done t m p i l h = (h.ends ∙ rw (drop_of_length-le t l), h.fills ∙ rw (drop_of_length-le t l, add-zero))
+-- the end of the text
+ends_at : (m : Mode) → ended m ≡ cond (is_plain m) (some []) none
+ends_at Plain = refl
+ends_at Opened = refl
+ends_at (OneDigit n) = refl
+ends_at (TwoDigits n) = refl
+ends_at (Closed n) = refl
+ends_at Spoilt = refl
+
+module _ (t : List ℕ) (m : Mode) (p : Picture) (i : ℕ) (l : length t ≤ i) (h : Head t m p i) where
+  at_end : filled_by p (cond (is_plain m) (some []) none) ≡ spelled_of t
+  unfolding expand_from
+  at_end = ap (filled_by p) (sym (ends_at m)) ∙ rw (drop_of_length-le t l) at h.rest
+
+  pub head_done : is_plain m ≡ true → Ok p ≡ spelled_of t
+  unfolding filled
+  head_done e = rw (e, add-zero) at at_end
+
+  pub head_waits : is_plain m ≡ false → Err Symbol ≡ spelled_of t
+  head_waits e = rw e at at_end

@@ -1,156 +1,77 @@
 // From picture text to symbols: one walk over the bytes, whose state is what has been read of a factor.
 #![tactic(auto)]
 
-ghost use Rattle.std.specs.Prelude.{◌≡◌, [], ◌+◌, ◌*◌, ◌<◌, ◌≤◌, length, replicate};
-ghost use Rattle.rules.specs.Text.{is_symbol, repeats, worth, allows, is_plain, next, copies, room_of, most_text, most_copies};
+ghost use Rattle.std.specs.Prelude.{◌≡◌, [], ◌<◌, ◌≤◌, length, replicate};
+ghost use Rattle.rules.specs.Text.{text_fits, is_symbol, repeats, allows, is_plain, next, copies, room_of, most_text, most_copies};
 ghost use Rattle.text.specs.Expansion.{expanded_of, filled, spelled_of};
 
-use roles::figures::is_decimal;
 use roles::marks::mark_at;
-use rules::{Mode, Picture};
+use rules::{Mode, Picture, Refusal};
 
-// What has been read of a text: the mode in which it ends, and the symbols that it has given. A count above 64 says how
-// many there would have been.
-#[derive(Clone, Copy)]
-pub struct Spelled {
-    pub mode: Mode,
-    pub picture: Picture,
-}
-
-// The symbols of a text, or the number of its refusal beside an empty picture.
-#[derive(Clone, Copy)]
-pub struct Expanded {
-    pub number: u8,
-    pub picture: Picture,
-}
-
+#[tactic(auto, using(std::proofs::lemmas::Bool::Decides::nat_tests), unfolding(rules::specs::Words::has))]
 fn is_symbol(b: u8) -> bool
     ensures { result ≡ is_symbol b }
 {
-    let digit_or_v = (b == b'9') | (b == b'Z') | (b == b'*') | (b == b'V');
-    let insertion = (b == b',') | (b == b'.') | (b == b'/') | (b == b'B');
-    let can_drift = (b == b'S') | (b == b'+') | (b == b'-') | (b == b'$');
-    let punched = (b == b'T') | (b == b'I') | (b == b'R');
-    digit_or_v | insertion | can_drift | punched
+    matches!(b, b'9' | b'Z' | b'*' | b'V' | b'T' | b'I' | b'R')
+        || matches!(b, b',' | b'.' | b'/' | b'B')
+        || matches!(b, b'S' | b'+' | b'-' | b'$')
 }
 
 // What a factor may repeat: every symbol of one byte but V and R.
+#[tactic(auto, using(std::proofs::lemmas::Bool::Decides::nat_tests), unfolding(rules::specs::Words::has))]
 fn can_repeat(b: u8) -> bool
     ensures { result ≡ repeats b }
 {
-    if (b == b'V') | (b == b'R') {
-        return false;
-    }
-    is_symbol(b)
+    is_symbol(b) && !matches!(b, b'V' | b'R')
 }
 
-fn worth_of(b: u8) -> u8
-    ensures { result ≡ worth b }
-{
-    if b < b'0' {
-        return 0;
-    }
-    b - b'0'
-}
-
-// Two digits as one number.
-fn joined(tens: u8, b: u8) -> usize
-    ensures { result ≡ tens * 10 + worth b }
-{
-    tens as usize * 10 + worth_of(b) as usize
-}
-
+#[tactic(auto, using(std::proofs::lemmas::Bool::Decides::nat_tests))]
 fn is_allowed(n: usize, b: u8) -> bool
     ensures { result ≡ allows n b }
 {
-    if !can_repeat(b) {
-        return false;
-    }
-    if n < 1 {
-        return false;
-    }
-    n <= Picture::MOST_COPIES
+    can_repeat(b) && (1..=Picture::MOST_COPIES).contains(&n)
 }
 
-// What has been read of a factor after one byte more.
+// What has been read of a factor after one byte more. A byte that isn't allowed stays a mode, since `next` of
+// the rules has it so.
+#[tactic(auto, using(std::proofs::lemmas::Bool::Decides::nat_tests), unfolding(rules::specs::Text::next))]
 fn step(mode: Mode, b: u8) -> Mode
     ensures { result ≡ next mode b }
 {
-    match mode {
-        Mode::Plain => {
-            if b == b'(' {
-                return Mode::Opened;
-            }
-            if is_symbol(b) {
-                return Mode::Plain;
-            }
+    match (mode, b) {
+        (Mode::Plain, b'(') => Mode::Opened,
+        (Mode::Plain, _) if is_symbol(b) => Mode::Plain,
+        (Mode::Opened, b'0'..=b'9') => Mode::OneDigit(b - b'0'),
+        (Mode::OneDigit(n), b')') => Mode::Closed(n as usize),
+        (Mode::OneDigit(n), b'0'..=b'9') => {
+            Mode::TwoDigits(n as usize * 10 + (b - b'0') as usize)
         }
-        Mode::Opened => {
-            if is_decimal(b) {
-                return Mode::OneDigit(worth_of(b));
-            }
-        }
-        Mode::OneDigit(n) => {
-            if b == b')' {
-                return Mode::Closed(n as usize);
-            }
-            if is_decimal(b) {
-                return Mode::TwoDigits(joined(n, b));
-            }
-        }
-        Mode::TwoDigits(n) => {
-            if b == b')' {
-                return Mode::Closed(n);
-            }
-        }
-        Mode::Closed(n) => {
-            if is_allowed(n, b) {
-                return Mode::Plain;
-            }
-        }
-        Mode::Spoilt => {}
+        (Mode::TwoDigits(n), b')') => Mode::Closed(n),
+        (Mode::Closed(n), _) if is_allowed(n, b) => Mode::Plain,
+        _ => Mode::Spoilt,
     }
-    Mode::Spoilt
 }
 
 // How many symbols the byte gives. A factor is judged where it is used, so this is at most 64.
+#[tactic(auto, using(std::proofs::lemmas::Bool::Decides::nat_tests), unfolding(rules::specs::Text::copies))]
 fn count_of(mode: Mode, b: u8) -> usize
     ensures { (result ≡ copies mode b) × (result ≤ most_copies) }
 {
     match mode {
-        Mode::Plain => {
-            if b == b'(' {
-                return 0;
-            }
-            1
-        }
-        Mode::Opened => 0,
-        Mode::OneDigit(_) => 0,
-        Mode::TwoDigits(_) => 0,
-        Mode::Closed(n) => {
-            if is_allowed(n, b) {
-                return n;
-            }
-            0
-        }
-        Mode::Spoilt => 0,
+        Mode::Plain if b != b'(' => 1,
+        Mode::Closed(n) if is_allowed(n, b) => n,
+        _ => 0,
     }
 }
 
 fn is_plain(mode: Mode) -> bool
     ensures { result ≡ is_plain mode }
 {
-    match mode {
-        Mode::Plain => true,
-        Mode::Opened => false,
-        Mode::OneDigit(_) => false,
-        Mode::TwoDigits(_) => false,
-        Mode::Closed(_) => false,
-        Mode::Spoilt => false,
-    }
+    matches!(mode, Mode::Plain)
 }
 
 // The empty picture.
+#[tactic(auto, unfolding(rules::specs::Text::room_of))]
 pub fn no_symbols() -> Picture
     ensures { result ≡ room_of [] }
 {
@@ -161,77 +82,58 @@ pub fn no_symbols() -> Picture
 }
 
 // n copies of b behind what the room holds; what falls outside is counted and dropped.
-fn put(picture: Picture, b: u8, n: usize) -> Picture
-    requires { (picture.count < 65536) × (n ≤ most_copies) }
-    ensures { result ≡ filled picture (replicate n b) }
+fn put(picture: &mut Picture, b: u8, n: usize)
+    requires { (picture.old.count < 65536) × (n ≤ most_copies) }
+    ensures { picture.new ≡ filled picture.old (replicate n b) }
 {
-    let at = picture.count;
-    let mut out = picture.symbols;
-    for k in 0..n {
-        let i = at + k;
-        if i < Picture::MOST_SYMBOLS {
-            out[i] = b;
-        }
-    }
-    Picture {
-        symbols: out,
-        count: at + n,
-    }
+    let room = Picture::MOST_SYMBOLS;
+    let end = picture.count + n;
+    picture.symbols[picture.count.min(room)..end.min(room)].fill(b);
+    picture.count = end;
 }
 
-// The walk.
-fn spell(text: &[u8]) -> Spelled
+// The walk, which judges every byte before symbols are counted (RULES 1.5): a count above 64 says how many
+// there would have been.
+fn spell(text: &[u8]) -> Result<Picture, Refusal>
     requires { length text.now ≤ most_text }
     ensures { result ≡ spelled_of text.now }
 {
     let mut mode = Mode::Plain;
     let mut picture = no_symbols();
-    let mut i = 0;
-    while i < text.len() {
-        let b = text[i];
-        if is_plain(mode) {
-            if mark_at(text, i) {
-                let first = put(picture, b, 1);
-                return Spelled {
-                    mode: Mode::Plain,
-                    picture: put(first, text[i + 1], 1),
-                };
-            }
+    for (i, &b) in text.iter().enumerate() {
+        if is_plain(mode) && mark_at(text, i) {
+            put(&mut picture, b, 1);
+            put(&mut picture, text[i + 1], 1);
+            return Ok(picture);
         }
-        picture = put(picture, b, count_of(mode, b));
+        put(&mut picture, b, count_of(mode, b));
         mode = step(mode, b);
-        i += 1;
     }
-    Spelled { mode, picture }
+    if !is_plain(mode) {
+        return Err(Refusal::Symbol);
+    }
+    Ok(picture)
 }
 
-fn unspelled(number: u8) -> Expanded
-    ensures { result ≡ record { number = number; picture = room_of [] } }
+// RULES 1.1: from 1 byte to 128.
+#[tactic(auto, unfolding(rules::specs::Text::text_fits))]
+fn text_fits(text: &[u8]) -> bool
+    ensures { result ≡ text_fits text.now }
 {
-    Expanded {
-        number,
-        picture: no_symbols(),
-    }
+    (1..=Picture::MOST_TEXT).contains(&text.len())
 }
 
-// The symbols of a text in their room; or 1 for its length, 2 for a byte or factor anywhere in it, 3 for over 64 symbols.
-pub fn expand(text: &[u8]) -> Expanded
+// The symbols of a text in their room; or the refusal of its length, of a byte or factor anywhere in it, or
+// of over 64 symbols.
+pub fn expand(text: &[u8]) -> Result<Picture, Refusal>
     ensures { result ≡ expanded_of text.now }
 {
-    if text.len() < 1 {
-        return unspelled(1);
+    if !text_fits(text) {
+        return Err(Refusal::Text);
     }
-    if Picture::MOST_TEXT < text.len() {
-        return unspelled(1);
-    }
-    let spelled = spell(text);
-    let mode = spelled.mode;
-    if !is_plain(mode) {
-        return unspelled(2);
-    }
-    let picture = spelled.picture;
+    let picture = spell(text)?;
     if Picture::MOST_SYMBOLS < picture.count {
-        return unspelled(3);
+        return Err(Refusal::Long);
     }
-    Expanded { number: 0, picture }
+    Ok(picture)
 }
