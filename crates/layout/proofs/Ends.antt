@@ -1,123 +1,83 @@
--- The search for the next `;`, and the pass that counts them. Both keep what is left, which with what was passed gives the whole. Assumes
--- nothing.
+-- A layout is cut at each `;`: at the first one its first picture ends, and where there is none there is no
+-- picture. Assumes nothing.
 use Prim.Native.Nat.{ℕ, suc, ◌+◌, ◌-◌, ◌<◌, ◌≤◌}
 use Prim.Native.Char.{code}
-use mathlib.Core.Path.{◌≡◌, refl, sym, ◌∙◌}
-use mathlib.Core.Bool.{Bool, true, false, ◌&&◌, and-false}
+use mathlib.Core.Path.{◌≡◌, refl, sym, ap, ◌∙◌}
+use mathlib.Core.Bool.{Bool, false, and-true, and-false}
 use mathlib.Core.List.{List, [], ◌∷◌, ◌++◌}
-use native.Mathlib.Nat.{add-zero}
-use native.Mathlib.Numerals.{add-one}
 use native.Mathlib.Omega.{arith}
-use borrow.Author.Tests.{eq-eqb, ne_eqb, le-leb, lt-leb}
-use lib.Dec.{eqb, leb}
-use lib.ListN.{length, get_or, take, drop, length-drop, drop_of_length-le}
-use lib.Seq.{drop-cons, take-suc, get_or-drop}
-use Rattle.rules.specs.Words.{times, one}
-use Rattle.rules.specs.Layout.{cut, closes, count_fits, pictures, most_layout, most_pictures}
+use borrow.Author.Tests.{ltb-true, ltb-false, lt-leb}
+use lib.Dec.{eqb, ltb}
+use lib.ListN.{length, take, drop, length-drop}
+use lib.Seq.{take_all}
+use Rattle.std.proofs.Common.{append_assoc, append-nil}
+use Rattle.std.specs.Prelude.{Some, None, position}
+use Rattle.std.specs.List.{position_or_len}
+use Rattle.std.specs.Cmp.Lexicographic.{pointwise}
+use Rattle.rules.specs.Layout.{closes, count_fits, cut, most_layout, pictures}
+use Rattle.layout.specs.Ends.{ends}
 use Rattle.rules.proofs.Logic.{by_test, eqb_swap}
-use Rattle.layout.specs.Passes.{EndIs}
 
--- the byte at i, taken off what is left
-byte : (l : List ℕ) (i : ℕ) → i < length l → drop i l ≡ get_or l i 0 ∷ drop (i + 1) l
-byte l i h = rw add-one (drop-cons l i 0 h)
+-- the place of the first `;`, or the length
+abbrev end : List ℕ → ℕ
+end s = position_or_len ends s
 
--- from `from` on, no `;` stands before `end`
-pub record Seek (l : List ℕ) (from end : ℕ) : Type 0 where
-  pub forward : from ≤ end
-  pub inside : end ≤ length l
-  pub cuts : cut [] (drop from l) ≡ cut (take (end - from) (drop from l)) (drop end l)
+cut_at : (sofar s : List ℕ) → end s < length s → cut sofar s ≡ (sofar ++ take (end s) s) ∷ cut [] (drop (end s + 1) s)
+unfolding cut
+cut_at sofar [] h = absurd (omega arith)
+cut_at sofar (b ∷ s) h =
+    by_test (ends b)
+    (λ e. rw e (ap (λ (x : List ℕ). x ∷ cut [] s) (sym (append-nil sofar))))
+    (λ e. rw e (
+    let n : 1 + end s ≡ suc (end s) = omega arith in
+    let m : suc (end s) + 1 ≡ suc (end s + 1) = omega arith in
+    rw (n, m) (cut_at (sofar ++ (b ∷ [])) s (omega (arith, rw e at h)) ∙ rw (append_assoc sofar (b ∷ []) (take (end s) s)) refl)))
 
-pub seek_first : (l : List ℕ) (from : ℕ) → from ≤ length l → Seek l from from
-seek_first l from h =
-    let z : from - from ≡ 0 = omega arith in
-    record { forward = omega arith; inside = h; cuts = rw z }
+cut_none : (sofar s : List ℕ) → length s ≤ end s → cut sofar s ≡ []
+unfolding cut
+cut_none sofar [] h = refl
+cut_none sofar (b ∷ s) h =
+    by_test (ends b)
+    (λ e. absurd (omega (arith, rw e at h)))
+    (λ e. rw e (cut_none (sofar ++ (b ∷ [])) s (omega (arith, rw e at h))))
 
-module _ (l : List ℕ) (from end : ℕ) (h : Seek l from end) where
-  pub seek_more : end < length l → (get_or l end 0 ≡ code ";" → ⊥) → Seek l from (end + 1)
-  unfolding cut
-  seek_more i n =
-      let d = byte l end i in
-      let e : end + 1 - from ≡ suc (end - from) = omega (arith, h.forward) in
-      let f : from + (end - from) ≡ end = omega (arith, h.forward) in
-      let g : end - from < length (drop from l) = rw length-drop (omega (arith, h.forward)) in
-      record {
-        forward = omega (arith, h.forward);
-        inside = omega arith;
-        cuts = h.cuts ∙ rw (d, ne_eqb _ (code ";") n, e, take-suc (drop from l) (end - from) 0 g, get_or-drop, f);
-      }
+-- at the first `;` the first picture ends; where there is none, there is no picture
+pub picture_ends : (l : List ℕ) (i : ℕ) → Some i ≡ position ends l → pictures l ≡ take i l ∷ pictures (take (length l - (i + 1)) (drop (i + 1) l))
+picture_ends l i e =
+    by_test (ltb (end l) (length l))
+    (λ b. let q : Some i ≡ Some (end l) = rw b at e in
+    let f : i ≡ end l = cc in
+    rw (f, take_all (length l - (end l + 1)) (drop (end l + 1) l) (simp length-drop (omega arith))) (cut_at [] l (ltb-true _ _ b)))
+    (λ b. let q : Some i ≡ None = rw b at e in cc)
 
-  pub seek_hit : end < length l → get_or l end 0 ≡ code ";" → EndIs l from end
-  unfolding cut
-  seek_hit i q = record {
-    forward = h.forward;
-    inside = h.inside;
-    found = λ _. h.cuts ∙ rw (byte l end i, eq-eqb _ (code ";") q);
-    none = λ o. absurd (omega arith);
-  }
+pub fewer_left : (l : List ℕ) (i : ℕ) → Some i ≡ position ends l → length (pictures (take (length l - (i + 1)) (drop (i + 1) l))) < length (pictures l)
+fewer_left l i e = rw (picture_ends l i e) (omega arith)
 
-  pub seek_none : length l ≤ end → EndIs l from end
-  unfolding cut
-  seek_none o = record {
-    forward = h.forward;
-    inside = h.inside;
-    found = λ i. absurd (omega arith);
-    none = λ _. h.cuts ∙ rw (drop_of_length-le l o);
-  }
+pub no_picture : (l : List ℕ) → None ≡ position ends l → pictures l ≡ []
+no_picture l e =
+    by_test (ltb (end l) (length l))
+    (λ b. let q : None ≡ Some (end l) = rw b at e in cc)
+    (λ b. cut_none [] l (ltb-false _ _ b))
 
--- a layout has as many pictures as it has `;`
-cut_count : (sofar l : List ℕ) → length (cut sofar l) ≡ times (code ";") l
-unfolding cut times
-cut_count sofar [] = refl
-cut_count sofar (b ∷ s) =
+pub cut_le : (sofar s : List ℕ) → length (cut sofar s) ≤ length s
+unfolding cut
+cut_le sofar [] = omega arith
+cut_le sofar (b ∷ s) =
     by_test (eqb b (code ";"))
-    (λ e. rw (eqb_swap (code ";") b, e, cut_count [] s) (omega arith))
-    (λ e. rw (eqb_swap (code ";") b, e, cut_count (sofar ++ (b ∷ [])) s) (omega arith))
+    (λ e. rw e (omega (arith, cut_le [] s)))
+    (λ e. rw e (omega (arith, cut_le (sofar ++ (b ∷ [])) s)))
 
--- before place i stand `count` of the `;`, and `closed` says whether one stands last
-pub record Counting (l : List ℕ) (i count : ℕ) (closed : Bool) : Type 0 where
-  pub inside : i ≤ length l
-  pub few : count ≤ i
-  pub closing : closes closed (drop i l) ≡ closes false l
-  pub ends : count + times (code ";") (drop i l) ≡ times (code ";") l
+last_is : (now : Bool) (b : ℕ) (s : List ℕ) → pointwise eqb (code ";" ∷ []) (drop (length s) (b ∷ s)) ≡ closes now (b ∷ s)
+unfolding closes
+last_is now b [] = rw (eqb_swap (code ";") b) (and-true _)
+last_is now b (c ∷ s) = last_is (eqb b (code ";")) c s
 
-pub counting_first : (l : List ℕ) → Counting l 0 0 false
-counting_first l = record { inside = omega arith; few = omega arith; closing = refl; ends = omega arith }
-
-module _ (l : List ℕ) (i count : ℕ) (closed : Bool) (h : Counting l i count closed) where
-  module _ (k : i < length l) where
-    closing_next : closes (eqb (get_or l i 0) (code ";")) (drop (i + 1) l) ≡ closes false l
-    unfolding closes
-    closing_next = rw (byte l i k) at h.closing
-
-    ends_next : count + (one (eqb (get_or l i 0) (code ";")) + times (code ";") (drop (i + 1) l)) ≡ times (code ";") l
-    unfolding times
-    ends_next = rw (byte l i k, eqb_swap (code ";") (get_or l i 0)) at h.ends
-
-    pub counting_end : eqb (get_or l i 0) (code ";") ≡ true → Counting l (i + 1) (count + 1) (eqb (get_or l i 0) (code ";"))
-    counting_end e = record {
-      inside = omega arith;
-      few = omega (arith, h.few);
-      closing = closing_next;
-      ends = omega (arith, rw e at ends_next);
-    }
-
-    pub counting_other : eqb (get_or l i 0) (code ";") ≡ false → Counting l (i + 1) count (eqb (get_or l i 0) (code ";"))
-    counting_other e = record {
-      inside = omega arith;
-      few = omega (arith, h.few);
-      closing = closing_next;
-      ends = omega (arith, rw e at ends_next);
-    }
-
-  -- every byte is passed
-  pub counted : length l ≤ most_layout → length l ≤ i → (closed && leb count most_pictures) ≡ count_fits l
-  unfolding count_fits closes times
-  counted a o =
-      let d = drop_of_length-le l o in
-      let c : closed ≡ closes false l = rw d at h.closing in
-      let n : count ≡ length (pictures l) = sym (add-zero count) ∙ rw d at h.ends ∙ sym (cut_count [] l) in
-      rw (c, n, le-leb (length l) most_layout a)
+-- the last byte is the one by which a layout ends
+pub closed_is : (l : List ℕ) → pointwise eqb (code ";" ∷ []) (drop (length l - 1) l) ≡ closes false l
+unfolding closes
+closed_is [] = refl
+closed_is (b ∷ s) = let e : length (b ∷ s) - 1 ≡ length s = omega arith in rw e (last_is false b s)
 
 pub too_long : (l : List ℕ) → most_layout < length l → false ≡ count_fits l
 unfolding count_fits
-too_long l a = rw (lt-leb (length l) most_layout a, and-false (closes false l))
+too_long l a = rw (lt-leb (length l) most_layout a) (sym (and-false (closes false l)))

@@ -1,105 +1,69 @@
--- The pass that puts the headers and the roles of a layout's pictures, on plain values: what is left, put from here on, gives the whole.
--- Assumes nothing.
-use Prim.Native.Nat.{ℕ, ◌+◌, ◌-◌, ◌<◌, ◌≤◌}
+-- The pass that puts the headers and the roles of a layout's pictures: those that are left, put from here on,
+-- give the whole. Assumes nothing.
+use Prim.Native.Nat.{ℕ, ◌+◌, ◌≤◌}
 use mathlib.Core.Path.{◌≡◌, refl, sym, ◌∙◌}
 use mathlib.Core.List.{List, [], ◌∷◌, map}
 use native.Mathlib.Omega.{arith}
-use lib.ListN.{length, take, drop, length-append}
-use lib.Seq.{sets, length-sets, take-append_seam}
-use Rattle.rules.specs.Form.{size, meaning}
+use lib.ListN.{length, length-append}
+use lib.Seq.{sets, length-sets}
+use Rattle.std.specs.Prelude.{Result, Ok, Err}
+use Rattle.std.specs.Result.{IsOk}
+use Rattle.rules.specs.declared.Refusal.{Refusal}
+use Rattle.rules.specs.Refusals.{result_number}
+use Rattle.rules.specs.Form.{Form, size, meaning}
 use Rattle.rules.specs.Shape.{verdict}
-use Rattle.rules.specs.Layout.{cut, forms, headers, pictures, positions}
+use Rattle.rules.specs.Layout.{headers, positions}
 use Rattle.rules.proofs.Firsts.{first_zero}
 use Rattle.rules.proofs.Forms.{accepted_good, good_parts}
-use Rattle.form.specs.declared.Meaning.{Meaning}
-use Rattle.form.specs.Rooms.{meaning_of}
-use Rattle.layout.specs.Passes.{EndIs, FormFits, Fits, fields_in}
+use Rattle.rules.proofs.Refusing.{refusal_some}
+use Rattle.layout.specs.Passes.{FormFits, Fits, fields_in}
 use Rattle.layout.proofs.Bytes.{form_more}
 
--- The pictures left, of which t is the first.
-module _ (left : List (List ℕ)) (room header at : ℕ) (f : Fits left room header at) (t : List ℕ) (ts : List (List ℕ)) (q : left ≡ t ∷ ts) where
-  first_accepted : verdict t ≡ 0
-  first_accepted = (first_zero _ _ (rw q at f.accepted)).0
+-- a result without a refusal
+pub no_refusal : {A : Type 0} (r : Result A Refusal) (n : ℕ) → result_number r ≡ n → n ≡ 0 → IsOk r
+no_refusal (Ok x) n e z = refl
+no_refusal (Err r) n e z = absurd (refusal_some r (e ∙ z))
 
-  apart_next : header + 3 + length (headers (map meaning ts)) ≤ at
-  unfolding headers
-  apart_next = omega (arith, rw q at f.apart)
-
-  roles_next : at + size (meaning t) + length (positions (map meaning ts)) ≤ room
-  unfolding positions
-  roles_next = omega (arith, simp length-append at (rw q at f.roles))
-
-  module _ (form : Meaning) (e : form ≡ meaning_of (meaning t)) where
-    size_form : form.size ≡ size (meaning t)
-    unfolding meaning_of
-    size_form = rw e
-
-    vee_form : form.vee ≡ (meaning t).vee
-    unfolding meaning_of
-    vee_form = rw e
-
-    first_fits : FormFits form room header at
-    first_fits =
-        let g = good_parts (meaning t) (accepted_good t first_accepted) in
-        record {
-          small = omega (arith, size_form, g.size);
-          vee = omega (arith, size_form, vee_form, g.inside);
-          apart = omega (arith, apart_next);
-          roles = omega (arith, size_form, roles_next);
-        }
-
-    rest_fits : Fits ts room (header + 3) (at + form.size)
-    rest_fits = record {
-      accepted = (first_zero _ _ (rw q at f.accepted)).1;
-      apart = omega (arith, apart_next);
-      roles = omega (arith, size_form, roles_next);
-    }
-
-    first_put : (plan after : List ℕ) → after ≡ sets (sets plan header (form.size ∷ form.vee ∷ form.kind ∷ [])) at (take form.size form.roles)
-        → fields_in plan header at (map meaning left) ≡ fields_in after (header + 3) (at + form.size) (map meaning ts)
-    unfolding meaning_of
-    first_put plan after x =
-        let φ = meaning t in
-        rw (x, q, e, take-append_seam φ.roles) (form_more φ (map meaning ts) plan header at apart_next)
-
--- what the pass keeps, before the picture from `from` to `end`
-pub record Putting (l before : List ℕ) (hs ps : ℕ) (plan : List ℕ) (header at from end : ℕ) : Type 0 where
-  pub ends : EndIs l from end
+-- what the pass keeps: the forms left, put from here on into this plan, give all of them put into the plan
+-- that was lent
+pub record Putting (ts : List (List ℕ)) (before : List ℕ) (hs ps : ℕ) (plan : List ℕ) (header at : ℕ) (left : List (List ℕ)) : Type 0 where
   pub same : length plan ≡ length before
-  pub fits : Fits (cut [] (drop from l)) (length plan) header at
-  pub rest : fields_in plan header at (map meaning (cut [] (drop from l))) ≡ fields_in before hs ps (forms l)
+  pub fits : Fits left (length plan) header at
+  pub rest : fields_in plan header at (map meaning left) ≡ fields_in before hs ps (map meaning ts)
 
-pub putting_first : (l plan : List ℕ) (hs ps end : ℕ) → Fits (pictures l) (length plan) hs ps → EndIs l 0 end → Putting l plan hs ps plan hs ps 0 end
-unfolding forms
-putting_first l plan hs ps end f e = record { ends = e; same = refl; fits = f; rest = refl }
+pub putting_first : (ts left : List (List ℕ)) (plan : List ℕ) (hs ps : ℕ) → left ≡ ts → Fits ts (length plan) hs ps → Putting ts plan hs ps plan hs ps left
+putting_first ts left plan hs ps e f = rw e (record { same = refl; fits = f; rest = refl })
 
-module _ (l before : List ℕ) (hs ps : ℕ) (plan : List ℕ) (header at from end : ℕ) (h : Putting l before hs ps plan header at from end) where
-  module _ (i : end < length l) where
-    abbrev here : List ℕ
-    here = take (end - from) (drop from l)
+module _ (ts : List (List ℕ)) (before : List ℕ) (hs ps : ℕ) (plan : List ℕ) (header at : ℕ) (left : List (List ℕ)) (h : Putting ts before hs ps plan header at left) where
+  module _ (t : List ℕ) (others : List (List ℕ)) (q : left ≡ t ∷ others) where
+    pub next_accepted : verdict t ≡ 0
+    next_accepted = (first_zero _ _ (rw q at h.fits.accepted)).0
 
-    abbrev others : List (List ℕ)
-    others = cut [] (drop (end + 1) l)
+    apart_next : header + 3 + length (headers (map meaning others)) ≤ at
+    unfolding headers
+    apart_next = omega (arith, rw q at h.fits.apart)
 
-    pub next_accepted : verdict (take (end - from) (drop from l)) ≡ 0
-    next_accepted = first_accepted _ _ _ _ h.fits here others (h.ends.found i)
+    roles_next : at + size (meaning t) + length (positions (map meaning others)) ≤ length plan
+    unfolding positions
+    roles_next = omega (arith, simp length-append at (rw q at h.fits.roles))
 
-    module _ (form : Meaning) (e : form ≡ meaning_of (meaning (take (end - from) (drop from l)))) where
-      pub next_fits : FormFits form (length plan) header at
-      next_fits = first_fits _ _ _ _ h.fits here others (h.ends.found i) form e
+    module _ (φ : Form) (e : φ ≡ meaning t) where
+      pub next_fits : FormFits φ (length plan) header at
+      next_fits =
+          let g = good_parts (meaning t) (accepted_good t next_accepted) in
+          rw e (record { small = omega (arith, g.size); vee = omega (arith, g.inside); apart = omega (arith, apart_next); roles = omega (arith, roles_next) })
 
-      pub putting_more : (after : List ℕ) → after ≡ sets (sets plan header (form.size ∷ form.vee ∷ form.kind ∷ [])) at (take form.size form.roles)
-          → (next : ℕ) → EndIs l (end + 1) next → Putting l before hs ps after (header + 3) (at + form.size) (end + 1) next
-      putting_more after x next y =
-          let n : length after ≡ length plan = rw x (simp length-sets) in
+      pub putting_more : (after : List ℕ) → after ≡ sets (sets plan header (size φ ∷ φ.vee ∷ φ.kind ∷ [])) at φ.roles → (n : ℕ) → n ≡ size (meaning t)
+          → Putting ts before hs ps after (header + 3) (at + n) others
+      putting_more after x n s =
+          let l : length after ≡ length plan = rw x (simp length-sets) in
           record {
-            ends = y;
-            same = n ∙ h.same;
-            fits = rw n (rest_fits _ _ _ _ h.fits here others (h.ends.found i) form e);
-            rest = sym (first_put _ _ _ _ h.fits here others (h.ends.found i) form e plan after x) ∙ h.rest;
+            same = l ∙ h.same;
+            fits = rw l (record { accepted = (first_zero _ _ (rw q at h.fits.accepted)).1; apart = omega (arith, apart_next); roles = omega (arith, s, roles_next) });
+            rest = rw (x, e, s) (sym (form_more (meaning t) (map meaning others) plan header at apart_next)) ∙ (rw q at h.rest);
           }
 
   -- no picture is left
-  pub putting_done : length l ≤ end → plan ≡ fields_in before hs ps (forms l)
+  pub putting_done : left ≡ [] → plan ≡ fields_in before hs ps (map meaning ts)
   unfolding headers positions
-  putting_done o = rw (h.ends.none o) at h.rest
+  putting_done q = rw q at h.rest

@@ -1,41 +1,68 @@
-// Where the pictures of a layout end, and whether their count is right.
-ghost use Rattle.std.specs.Prelude.{◌≡◌, ◌≤◌, length};
-ghost use Rattle.rules.specs.Layout.{count_fits};
-ghost use Rattle.layout.specs.Passes.{EndIs};
+// The pictures of a layout, and whether their count is right.
+ghost use Rattle.std.specs.Prelude.{◌≡◌, false, length, position};
+ghost use Rattle.rules.specs.Layout.{closes, count_fits, pictures};
+ghost use Rattle.layout.specs.Ends.{ends};
 
 use rules::{MOST_LAYOUT, MOST_PICTURES};
 
-// The place of the next `;` from here on; the length where there is none.
-pub(crate) fn next_end(layout: &[u8], from: usize) -> usize
-    requires { from ≤ length layout.now }
-    ensures { EndIs layout.now from result }
-{
-    let mut end = from;
-    while end < layout.len() {
-        if layout[end] == b';' {
-            return end;
-        }
-        end += 1;
-    }
-    end
+// The pictures of a layout, in their order: what stands before each `;`. What no `;` ends is no picture.
+#[derive(Drop)]
+pub(crate) struct Pictures<'a> {
+    pub left: &'a [u8],
 }
 
-// RULES 5.1: COUNT is given where this fails. A layout that is empty isn't ended by `;`.
+impl<'a> Pictures<'a> {
+    pub(crate) fn of(layout: &'a [u8]) -> Pictures<'a>
+        ensures { result.left.now ≡ layout.now }
+    {
+        Pictures { left: layout }
+    }
+}
+
+impl<'a> Iterator for Pictures<'a> {
+    ghost use Rattle.std.specs.Iterator.{YieldsFirstRef, item_count};
+
+    type Item = &'a [u8];
+
+    ghost next_gives = { YieldsFirstRef (λ s. pictures s.left.now) };
+
+    ghost remaining = { item_count (λ s. pictures s.left.now) };
+
+    fn next(&mut self) -> Option<&'a [u8]> {
+        let end = end_of(self.left)?;
+        let picture = &self.left[..end];
+        self.left = &self.left[end + 1..];
+        Some(picture)
+    }
+}
+
+// Where the first picture ends, if any does.
+fn end_of(layout: &[u8]) -> Option<usize>
+    ensures { result ≡ position ends layout.now }
+{
+    layout.iter().position(|b| *b == b';')
+}
+
+// How many pictures the layout has.
+fn count_of(layout: &[u8]) -> usize
+    ensures { result ≡ length (pictures layout.now) }
+{
+    Pictures::of(layout).count()
+}
+
+// A layout that is empty isn't ended by `;`.
+fn is_closed(layout: &[u8]) -> bool
+    ensures { result ≡ closes false layout.now }
+{
+    layout.ends_with(b";")
+}
+
+// RULES 5.1: COUNT is given where this fails.
 pub(crate) fn count_fits(layout: &[u8]) -> bool
     ensures { result ≡ count_fits layout.now }
 {
     if MOST_LAYOUT < layout.len() {
         return false;
     }
-    let mut count: usize = 0;
-    let mut closed = false;
-    let mut i = 0;
-    while i < layout.len() {
-        closed = layout[i] == b';';
-        if closed {
-            count += 1;
-        }
-        i += 1;
-    }
-    closed & (count <= MOST_PICTURES)
+    is_closed(layout) && count_of(layout) <= MOST_PICTURES
 }

@@ -1,52 +1,37 @@
 // The first bad picture of a layout, or what its plan needs. Nothing is written.
-ghost use Rattle.std.specs.Prelude.{◌≡◌, ◌≤◌, length};
+ghost use Rattle.std.specs.Prelude.{◌≤◌, length};
 ghost use Rattle.rules.specs.Layout.{most_pictures, pictures};
-ghost use Rattle.layout.specs.Passes.{measured_of};
+ghost use Rattle.layout.specs.Passes.{FormAt, MeasuredIs};
 
-use super::cutting::next_end;
-use form::form_of;
-use picture::verdict::judge;
+use super::cutting::Pictures;
+use form::Meaning;
+use picture::verdict::judged_form;
+use rules::Refused;
 
-// The number of the first bad picture, beside its 1-based field; or 0, beside the number of pictures and the record length.
+// How many pictures a layout has, and how many positions all of them together.
 #[derive(Clone, Copy)]
-pub struct Measured {
-    pub number: u8,
-    pub field: u8,
+pub struct Extent {
     pub count: usize,
     pub width: usize,
 }
 
-// The pictures in their order: the first bad one ends the pass, and what no `;` ends is no picture.
-pub(crate) fn measure(layout: &[u8]) -> Measured
-    requires { length (pictures layout.now) ≤ most_pictures }
-    ensures { result ≡ measured_of 0 0 (pictures layout.now) }
+// The form of the picture in this field, or its refusal there.
+fn form_at(text: &[u8], field: u8) -> Result<Meaning, Refused>
+    ensures { FormAt text.now field result }
 {
-    let mut count: usize = 0;
-    let mut width: usize = 0;
-    let mut from: usize = 0;
-    let mut end = next_end(layout, 0);
-    while end < layout.len() {
-        let judged = judge(&layout[from..end]);
-        let number = judged.number;
-        if number != 0 {
-            return Measured {
-                number,
-                field: (count + 1) as u8,
-                count: 0,
-                width: 0,
-            };
-        }
-        let picture = judged.picture;
-        let form = form_of(picture);
-        count += 1;
-        width += form.size;
-        from = end + 1;
-        end = next_end(layout, from);
+    judged_form(text).map_err(|refusal| Refused { refusal, field })
+}
+
+// The first bad picture ends the pass (RULES 6.3).
+pub(crate) fn measure(layout: &[u8]) -> Result<Extent, Refused>
+    requires { length (pictures layout.now) ≤ most_pictures }
+    ensures { MeasuredIs (pictures layout.now) result }
+{
+    let mut extent = Extent { count: 0, width: 0 };
+    for text in Pictures::of(layout) {
+        extent.count += 1;
+        let form = form_at(text, extent.count as u8)?;
+        extent.width += form.size;
     }
-    Measured {
-        number: 0,
-        field: 0,
-        count,
-        width,
-    }
+    Ok(extent)
 }

@@ -1,4 +1,4 @@
-pub mod Held
 pub mod Judging
+pub mod Lent
 pub mod EditWays
 pub mod ReadWays

@@ -1,69 +1,51 @@
-// The refusals of a picture text, in the order of RULES 2.14: its bytes, its symbols, their number, its shape, its digits.
-ghost use Rattle.std.specs.Prelude.{◌≡◌, true};
+// The refusals of a picture text, in the order of RULES 2.14: its bytes, its symbols, their number, its
+// shape, its digits.
+ghost use Rattle.std.specs.Prelude.{◌≡◌, true, IfOk};
 ghost use Rattle.rules.specs.Text.{held_in};
-ghost use Rattle.rules.specs.Form.{form_of};
+ghost use Rattle.rules.specs.Form.{meaning};
+ghost use Rattle.rules.specs.Shape.{verdict, picture_of};
+ghost use Rattle.rules.specs.Refusals.{result_number};
 ghost use Rattle.rules.proofs.Expand.{spelled};
-ghost use Rattle.shape.specs.Judge.{judged_of};
-ghost use Rattle.picture.specs.Verdicts.{shape_number, verdict_of};
+ghost use Rattle.form.specs.Rooms.{meaning_of};
+ghost use Rattle.picture.specs.Verdicts.{shape_number};
 
-use form::{form_of, one_suppresses, one_v};
-use rules::Picture;
-use shape::Judged;
-use text::no_symbols;
+use form::{Meaning, form_of, one_suppresses, one_v};
+use rules::{Picture, Refusal};
 
-// The number of a text's refusal, beside an empty picture; or 0, beside the picture.
-#[derive(Clone, Copy)]
-pub struct Verdict {
-    pub number: u8,
-    pub picture: Picture,
-}
-
-// The rules that speak of digits, signs and static symbols, and the number of digits: one pass over the roles.
-fn judge_form(picture: Picture) -> Judged
-    ensures { result ≡ judged_of (form_of (held_in picture)) }
-{
-    let form = form_of(picture);
-    let roles = &form.roles[..];
-    let size = form.size;
-    shape::judge(&roles[0..size], form.vee, form.kind)
-}
-
-// SHAPE, DIGITS or 0, of symbols that a text gave.
-fn shape_number(picture: Picture) -> u8
+// SHAPE or DIGITS, of symbols that a text gave. The rules that speak of digits, signs and static symbols, and
+// the number of digits, are judged in one pass over the roles.
+fn judge_symbols(picture: Picture) -> Result<(), Refusal>
     requires { spelled (held_in picture) ≡ true }
-    ensures { result ≡ shape_number (held_in picture) }
+    ensures { result_number result ≡ shape_number (held_in picture) }
 {
-    if !one_v(picture) {
-        return 4;
+    if !one_v(picture) || !one_suppresses(picture) {
+        return Err(Refusal::Shape);
     }
-    if !one_suppresses(picture) {
-        return 4;
-    }
-    let judged = judge_form(picture);
+    let judged = shape::judge(form_of(picture).lent());
     if !judged.shaped {
-        return 4;
+        return Err(Refusal::Shape);
     }
     if !judged.digits {
-        return 5;
+        return Err(Refusal::Digits);
     }
-    0
+    Ok(())
 }
 
-pub fn judge(text: &[u8]) -> Verdict
-    ensures { result ≡ verdict_of text.now }
+// The symbols of an accepted text.
+pub fn judge(text: &[u8]) -> Result<Picture, Refusal>
+    ensures number { result_number result ≡ verdict text.now }
+    ensures picture { IfOk result (λ picture. picture ≡ picture_of text.now) }
 {
-    let expanded = text::expand(text);
-    let number = expanded.number;
-    let picture = expanded.picture;
-    if number != 0 {
-        return Verdict { number, picture };
-    }
-    let shaped = shape_number(picture);
-    if shaped != 0 {
-        return Verdict {
-            number: shaped,
-            picture: no_symbols(),
-        };
-    }
-    Verdict { number: 0, picture }
+    let picture = text::expand(text)?;
+    judge_symbols(picture)?;
+    Ok(picture)
+}
+
+// The form that an accepted text means.
+pub fn judged_form(text: &[u8]) -> Result<Meaning, Refusal>
+    ensures number { result_number result ≡ verdict text.now }
+    ensures form { IfOk result (λ form. form ≡ meaning_of (meaning text.now)) }
+{
+    let picture = judge(text)?;
+    Ok(form_of(picture))
 }

@@ -1,16 +1,19 @@
--- `picture::read` meets its contract: the picture's refusals, then those of its form. Assumes nothing.
-use borrow.Author.Rules.{rules}
-use Rattle.picture.proofs.Judging.{verdict_number, meaning_is, picture_good}
-use Rattle.picture.proofs.ReadWays.{text_refused, by_form}
+-- `picture::read` meets its contract, by the laws of ReadWays. Assumes nothing.
+use mathlib.Core.Path.{sym, ◌∙◌}
+use Rattle.std.proofs.lemmas.Result.{err_from_is_err_and}
+use Rattle.picture.proofs.Lent.{size_is, lent_is}
+use Rattle.picture.proofs.ReadWays.{read_refused, other_length, read_said}
 use Rattle.picture.proofs.read.Goals as goal
 
-pub returns-then-judged-ne0 : goal.returns-then-judged-ne0
-returns-then-judged-ne0 c =
-    text_refused _ _ _ (verdict_number _ _ c.judge-judged.ensures) _ c.refused.ensures c.if-judged-ne0.true
+pub returns-in_err-form : goal.returns-in_err-form
+returns-in_err-form c =
+    let p = err_from_is_err_and c.from_residual.result c.from_residual.ensures.1 in rw (p.1, p.2) (read_refused _ _ _ c.in_err-form.ensures.number)
 
-pub read_picture-requires : goal.read_picture-requires
-read_picture-requires c = picture_good _ _ c.judge-judged.ensures (search rules)
+pub returns-then-field-form : goal.returns-then-field-form
+returns-then-field-form c =
+    other_length _ _ c.in_ok-form.ensures.number (λ l. c.if-field-form.true (l ∙ sym (size_is _ _ c.in_ok-form.ensures.form)))
 
 pub returns : goal.returns
 returns c =
-    by_form _ _ _ (verdict_number _ _ c.judge-judged.ensures) (search rules) _ (meaning_is _ _ c.judge-judged.ensures (search rules)) _ c.read_picture.ensures
+    rw c.ok_or.ensures.value (read_said _ _ c.in_ok-form.ensures.number (c.if-field-form.false ∙ size_is _ _ c.in_ok-form.ensures.form) _
+    (rw (lent_is _ _ c.in_ok-form.ensures.form _ c.lent.ensures) at c.read.ensures))

@@ -1,46 +1,22 @@
 -- `layout::measuring::measure` meets its contract, by the laws of `Measuring`. Assumes nothing.
-use borrow.Author.Rules.{rules}
-use Prim.Native.Nat.{◌+◌, ◌≤◌}
 use native.Mathlib.Omega.{arith}
-use Rattle.layout.proofs.Measures.{measuring_first, few_next, measuring_stops, size_small, measuring_more, measuring_done}
+use Rattle.std.proofs.lemmas.Result.{err_from_is_err_and}
+use Rattle.layout.proofs.Measures.{few_next, measuring_stops, size_small, measuring_more, measuring_done}
 use Rattle.layout.proofs.measuring.measure.Goals as goal
-use Rattle.layout.proofs.measuring.measure.Goals.{In-loop-end}
 
-pub loop-end-init : goal.loop-end-init
-loop-end-init c = measuring_first _ _ (search rules) c.next_end-end.ensures
+pub returns-in_err-form : goal.returns-in_err-form
+returns-in_err-form c =
+    let p = err_from_is_err_and c.from_residual.result c.from_residual.ensures.1 in
+    rw (p.1, p.2) (measuring_stops _ _ _ c.loop-text.invariant.2 _ _ c.in-Some.ensures.steps _ c.in_err-form.ensures.0 c.in_err-form.ensures.1)
 
-pub overflow_add-result : goal.overflow_add-result
-overflow_add-result c =
-    let few : (c.loop-end.count + 1 ≤ 32) =
-    omega (arith, few_next _ _ _ _ _ c.loop-end.invariant c.loop-end-test.true) in
-    omega (arith, few)
+pub overflow_add-extent-in-loop-text : goal.overflow_add-extent-in-loop-text
+overflow_add-extent-in-loop-text c =
+    let h = c.loop-text.invariant.2 in
+    omega (arith, h.narrow, few_next _ _ _ h _ _ c.in-Some.ensures.steps c.requires, size_small _ _ _ h _ _ c.in-Some.ensures.steps c.in_ok-form.ensures.0 _ c.in_ok-form.ensures.1)
 
-pub overflow_cast-result : goal.overflow_cast-result
-overflow_cast-result c =
-    let few : (c.loop-end.count + 1 ≤ 32) =
-    omega (arith, few_next _ _ _ _ _ c.loop-end.invariant c.loop-end-test.true) in
-    omega (arith, few)
-
-pub returns-then-number-ne0 : goal.returns-then-number-ne0
-returns-then-number-ne0 c =
-    measuring_stops _ _ _ _ _ c.loop-end.invariant c.loop-end-test.true _ c.judge-judged.ensures c.if-number-ne0.true
-
-pub overflow_add-count : goal.overflow_add-count
-overflow_add-count c =
-    let few : (c.loop-end.count + 1 ≤ 32) =
-    omega (arith, few_next _ _ _ _ _ c.loop-end.invariant c.loop-end-test.true) in
-    omega (arith, few)
-
-pub overflow_add-width : goal.overflow_add-width
-overflow_add-width c =
-    let few : (c.loop-end.count + 1 ≤ 32) =
-    omega (arith, few_next _ _ _ _ _ c.loop-end.invariant c.loop-end-test.true) in
-    let h = c.loop-end.invariant in
-    omega (arith, few, h.narrow, size_small _ _ _ _ _ h c.loop-end-test.true _ c.judge-judged.ensures (search rules) _ c.form_of-form.ensures)
-
-pub loop-end-preserved : goal.loop-end-preserved
-loop-end-preserved c =
-    measuring_more _ _ _ _ _ c.loop-end.invariant c.loop-end-test.true _ c.judge-judged.ensures (search rules) _ c.form_of-form.ensures _ c.next_end-end-in-loop-end.ensures
+pub loop-text-preserved : goal.loop-text-preserved
+loop-text-preserved c =
+    (tt, tt, measuring_more _ _ _ c.loop-text.invariant.2 _ _ c.in-Some.ensures.steps c.in_ok-form.ensures.0 _ c.in_ok-form.ensures.1)
 
 pub returns : goal.returns
-returns c = measuring_done _ _ _ _ _ c.loop-end.invariant c.loop-end-test.false
+returns c = measuring_done _ _ _ c.loop-text.invariant.2 c.in-None.ensures.steps.0

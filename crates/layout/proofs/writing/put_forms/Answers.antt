@@ -1,34 +1,32 @@
 -- `layout::writing::put_forms` meets its contract, by the laws of `Putting`. Assumes nothing.
+use mathlib.Core.Path.{refl}
 use native.Mathlib.Omega.{arith}
-use Rattle.layout.proofs.Puts.{putting_first, next_accepted, next_fits, putting_more, putting_done}
+use Rattle.std.proofs.lemmas.Result.{IfOk-at_ok}
+use Rattle.rules.specs.Layout.{forms}
+use Rattle.picture.proofs.Lent.{size_is, lent_is}
+use Rattle.layout.proofs.Puts.{no_refusal, next_accepted, next_fits, putting_more, putting_done}
 use Rattle.layout.proofs.writing.put_forms.Goals as goal
 
-pub loop-end-init : goal.loop-end-init
-loop-end-init c = putting_first _ _ _ _ _ c.requires c.next_end-end.ensures
-
-pub form_in-form-requires : goal.form_in-form-requires
-form_in-form-requires c = next_accepted _ _ _ _ _ _ _ _ _ c.loop-end.invariant c.loop-end-test.true
+pub unwrap-form-requires : goal.unwrap-form-requires
+unwrap-form-requires c =
+    no_refusal _ _ c.judged_form.ensures.number (next_accepted _ _ _ _ _ _ _ _ c.loop-text.invariant.2 _ _ c.in-Some.ensures.steps)
 
 pub put_form-requires : goal.put_form-requires
 put_form-requires c =
-    next_fits _ _ _ _ _ _ _ _ _ c.loop-end.invariant c.loop-end-test.true _ c.form_in-form.ensures
-
-pub overflow_add-header : goal.overflow_add-header
-overflow_add-header c =
-    let f = next_fits _ _ _ _ _ _ _ _ _ c.loop-end.invariant c.loop-end-test.true _ c.form_in-form.ensures in
-    omega (arith, f.apart, f.roles, c.loop-end.invariant.same)
+    let m = IfOk-at_ok _ c.unwrap-form.ensures c.judged_form.ensures.form in
+    next_fits _ _ _ _ _ _ _ _ c.loop-text.invariant.2 _ _ c.in-Some.ensures.steps _ (lent_is _ _ m _ c.lent.ensures)
 
 pub overflow_add-at : goal.overflow_add-at
 overflow_add-at c =
-    let f = next_fits _ _ _ _ _ _ _ _ _ c.loop-end.invariant c.loop-end-test.true _ c.form_in-form.ensures in
-    omega (arith, f.roles, c.loop-end.invariant.same)
+    let m = IfOk-at_ok _ c.unwrap-form.ensures c.judged_form.ensures.form in
+    let f = next_fits _ _ _ _ _ _ _ _ c.loop-text.invariant.2 _ _ c.in-Some.ensures.steps _ refl in
+    omega (arith, f.roles, size_is _ _ m)
 
-pub loop-end-preserved : goal.loop-end-preserved
-loop-end-preserved c =
-    putting_more _ _ _ _ _ _ _ _ _ c.loop-end.invariant c.loop-end-test.true _ c.form_in-form.ensures _ c.put_form.ensures _ c.next_end-end-in-loop-end.ensures
+pub loop-text-preserved : goal.loop-text-preserved
+loop-text-preserved c =
+    let m = IfOk-at_ok _ c.unwrap-form.ensures c.judged_form.ensures.form in
+    (tt, tt, putting_more _ _ _ _ _ _ _ _ c.loop-text.invariant.2 _ _ c.in-Some.ensures.steps _ (lent_is _ _ m _ c.lent.ensures) _ c.put_form.ensures _ (size_is _ _ m))
 
 pub returns : goal.returns
-returns c = putting_done _ _ _ _ _ _ _ _ _ c.loop-end.invariant c.loop-end-test.false
-
-pub shape_of-plan : goal.shape_of-plan
-shape_of-plan c = c.loop-end.invariant.same
+unfolding forms
+returns c = putting_done _ _ _ _ _ _ _ _ c.loop-text.invariant.2 c.in-None.ensures.steps.0

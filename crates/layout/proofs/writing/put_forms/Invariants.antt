@@ -1,11 +1,10 @@
 -- `layout::writing::put_forms` meets its contract, by the laws of `Putting`. Assumes nothing.
-use Prim.Native.Nat.{◌-◌}
-use lib.ListN.{length}
+use Rattle.rules.specs.Layout.{pictures}
 use Rattle.layout.proofs.Puts.{Putting}
 use Rattle.layout.proofs.writing.put_forms.Given as goal
 
-abbrev pub invariant-loop-end : goal.invariant-loop-end
-invariant-loop-end l = Putting l.layout l.initial.plan l.headers l.positions l.plan l.header l.at l.from l.end
-
-abbrev pub decreases-loop-end : goal.decreases-loop-end
-decreases-loop-end l = length l.layout - l.end
+abbrev pub invariant-loop-text : goal.invariant-loop-text
+invariant-loop-text l =
+    (goal.iterator-loop-text).can_next l.text-iterator ×
+    (goal.iterator-loop-text).is_finite l.text-iterator ×
+    Putting (pictures l.layout) l.initial.plan l.headers l.positions l.plan l.header l.at (pictures l.text-iterator.left.now)
