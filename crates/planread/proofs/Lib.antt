@@ -1,3 +1,4 @@
+pub mod Refusing
 pub mod Turns
 pub mod Ways
 pub mod Additions

@@ -1,79 +1,69 @@
--- Reading field after field: what one turn finds and what it leaves. A field's form and its characters are the parts of the plan and of the
--- record that the turn lends; what the fields from here on say, put behind what is there, is the whole. Assumes nothing.
-use Prim.Native.Nat.{ℕ, ◌+◌, ◌-◌, ◌*◌, ◌<◌, ◌≤◌}
-use mathlib.Core.Path.{◌≡◌, sym, ap, ◌∙◌}
-use mathlib.Core.List.{List}
-use mathlib.Core.Option.{none, some}
+-- Reading field after field: what one turn finds and what it leaves. What the fields from here on say, put
+-- behind what is there, is the whole. Assumes nothing.
+use Prim.Native.Nat.{ℕ, ◌+◌, ◌≤◌}
+use mathlib.Core.Path.{◌≡◌, refl, sym, ◌∙◌}
+use mathlib.Core.Bool.{true}
+use mathlib.Core.List.{List, [], ◌∷◌}
+use mathlib.Core.Option.{Option, none, some}
 use native.Mathlib.Omega.{arith}
 use lib.IntN.{ℤ}
-use lib.ListN.{length, get_or, take, drop, set, length-take, length-drop}
-use lib.Seq.{drop-drop}
-use Rattle.rules.specs.declared.Reading.{Reading}
-use Rattle.rules.specs.declared.Reading.TheVariants.{Value, Conversion}
-use Rattle.rules.specs.Form.{formed, size}
-use Rattle.rules.specs.Layout.{record_length}
-use Rattle.rules.specs.PlanBytes.{forms_in}
-use Rattle.rules.specs.Candidate.{read_all, read_of, reading_of}
+use lib.ListN.{length, take, drop, set, length-take, length-drop}
+use Rattle.std.specs.Prelude.{None, Some, Ok}
+use Rattle.std.specs.declared.option.Option.{Option as CodeOption}
+use Rattle.rules.specs.Form.{Form, size}
+use Rattle.rules.specs.Layout.{most_pictures, record_length}
+use Rattle.rules.specs.Good.{good}
+use Rattle.rules.specs.PlanBytes.{all_good, forms_in, is_plan}
+use Rattle.rules.specs.Candidate.{option_of, read_all, read_of}
 use Rattle.rules.proofs.Forms.{few_digits}
+use Rattle.rules.proofs.Logic.{both}
 use Rattle.rules.proofs.Outcomes.{none_in, value_in}
-use Rattle.rules.proofs.PlanWalk.{field_count, form_at, forms_at, plan_parts, walk_end, walk_start, walk_step, width_at}
+use Rattle.rules.proofs.PlanWalk.{count_forms_in, plan_parts}
 use Rattle.fieldread.specs.Results.{read_in}
 use Rattle.fieldread.proofs.Cases.{read_in_lem}
-use Rattle.plan.proofs.Parts.{Walking, part_form, walking_good, walking_length, walking_start, walking_step, walking_within}
-use Rattle.planread.specs.Runs.{Due, ran_from}
+use Rattle.planread.specs.Runs.{Ran, ran_from, says_nothing}
 
--- Before field i, whose positions start at byte `at` of the plan and whose characters start at byte `from` of the record: the walk over the
--- plan stands there, the fields that are left fill the record, and with what they say the values are those of the whole, which began with `first`.
-pub record Onward (b rec : List ℕ) (first values : List ℤ) (at from i : ℕ) : Type 0 where
-  pub walk : Walking b i at
-  pub left : from + record_length (forms_at b i at) ≡ length rec
-  pub gives : ran_from i values (read_all (forms_at b i at) (drop from rec)) ≡ ran_from 0 first (read_all (forms_in b) rec)
+-- Before field i: the forms that are left, the characters of theirs that are left, the values so far, and
+-- what the whole run gives.
+pub record Onward (left : List Form) (rest : List ℕ) (values : List ℤ) (i : ℕ) (whole : Ran) : Type 0 where
+  pub fine : all_good left ≡ true
+  pub few : i + length left ≤ most_pictures
+  pub fills : length rest ≡ record_length left
+  pub gives : ran_from i values (read_all left rest) ≡ whole
 
-module _ (b rec : List ℕ) (first : List ℤ) (d : Due b rec) where
-  pub starts : Onward b rec first first (3 * field_count b + 3) 0 0
-  starts =
-      let e = walk_start b in
-      record { walk = walking_start b (plan_parts b d.plan); left = omega (arith, ap record_length e, d.length); gives = rw (← e) }
+pub starts : (b rec : List ℕ) (first : List ℤ) → is_plan b ≡ true → length rec ≡ record_length (forms_in b) → Onward (forms_in b) rec first 0 (ran_from 0 first (read_all (forms_in b) rec))
+starts b rec first h e =
+    let p = plan_parts b h in
+    record { fine = p.good; few = omega (arith, p.few, count_forms_in b); fills = e; gives = refl }
 
-  module _ (values : List ℤ) (at from i : ℕ) (o : Onward b rec first values at from i) where
-    pub ends : field_count b ≤ i → record { bad = 0; values = values } ≡ ran_from 0 first (read_all (forms_in b) rec)
+module _ (values : List ℤ) (rest : List ℕ) (i : ℕ) (whole : Ran) where
+  pub ends : Onward [] rest values i whole → record { outcome = Ok tt; values = values } ≡ whole
+  unfolding ran_from read_all
+  ends o = o.gives
+
+  module _ (φ : Form) (left : List Form) (o : Onward (φ ∷ left) rest values i whole) where
+    pub part_fits : size φ ≤ length rest
+    unfolding record_length
+    part_fits = omega (arith, o.fills)
+
+    fine_both : (good φ ≡ true) × (all_good left ≡ true)
+    unfolding all_good
+    fine_both = both (good φ) (all_good left) o.fine
+
+    said_is : (r : CodeOption ℤ) → r ≡ read_in φ (take (size φ) rest) → r ≡ option_of (read_of φ (take (size φ) rest))
+    said_is r e = e ∙ read_in_lem φ (few_digits φ fine_both.0) _ (simp length-take (omega (arith, part_fits)))
+
+    -- CONVERSION here
+    pub stops : (r : CodeOption ℤ) → r ≡ read_in φ (take (size φ) rest) → r ≡ None → record { outcome = says_nothing (i + 1); values = values } ≡ whole
     unfolding ran_from read_all
-    ends l = rw (walk_end b i at l) at o.gives
+    stops r e q = rw (none_in _ (sym (said_is r e) ∙ q)) at o.gives
 
-    module _ (l : i < field_count b) where
-      size_is : size (form_at b i at) ≡ width_at b i
-      size_is = walking_length b i at o.walk l
-
-      -- what is left of the record has this field and the fields behind it
-      left_more : from + width_at b i + record_length (forms_at b (i + 1) (at + width_at b i)) ≡ length rec
-      unfolding record_length
-      left_more = omega (arith, size_is, rw (walk_step b i at l) at o.left)
-
-      pub part_fits : (at + width_at b i ≤ length b) × (from + width_at b i ≤ length rec)
-      part_fits = (walking_within b i at o.walk l, omega (arith, left_more))
-
-      module _ (r : Reading) (e : r ≡ read_in (formed (take (at + width_at b i - at) (drop at b)) (get_or b (2 + 3 * i) 0) (get_or b (3 + 3 * i) 0)) (take (from + width_at b i - from) (drop from rec))) where
-        field_length : length (take (width_at b i) (drop from rec)) ≡ size (form_at b i at)
-        field_length = simp (length-take, length-drop) (omega (arith, size_is, part_fits.1))
-
-        reading_is : r ≡ reading_of (read_of (form_at b i at) (take (width_at b i) (drop from rec)))
-        reading_is =
-            let x : from + width_at b i - from ≡ width_at b i = omega arith in
-            rw (part_form b i at, x) at e ∙ read_in_lem (form_at b i at) (few_digits _ (walking_good b i at o.walk l)) _ field_length
-
-        -- CONVERSION here
-        pub stops : r ≡ Conversion → record { bad = i + 1; values = values } ≡ ran_from 0 first (read_all (forms_in b) rec)
-        unfolding ran_from read_all
-        stops q =
-            let x : read_of (form_at b i at) (take (width_at b i) (drop from rec)) ≡ none = none_in _ (sym reading_is ∙ q) in
-            rw (walk_step b i at l, size_is, x) at o.gives
-
-        pub goes_on_lem : (m : ℤ) → r ≡ Value m → Onward b rec first (set values i m) (at + width_at b i) (from + width_at b i) (i + 1)
-        unfolding ran_from read_all
-        goes_on_lem m q =
-            let x : read_of (form_at b i at) (take (width_at b i) (drop from rec)) ≡ some m = value_in _ m (sym reading_is ∙ q) in
-            record {
-              walk = walking_step b i at o.walk l;
-              left = left_more;
-              gives = rw (walk_step b i at l, size_is, x, drop-drop) at o.gives;
-            }
+    pub goes_on : (r : CodeOption ℤ) → r ≡ read_in φ (take (size φ) rest) → (m : ℤ) → r ≡ Some m → Onward left (drop (size φ) rest) (set values i m) (i + 1) whole
+    unfolding ran_from read_all record_length
+    goes_on r e m q =
+        record {
+          fine = fine_both.1;
+          few = omega (arith, o.few);
+          fills = simp length-drop (omega (arith, o.fills));
+          gives = rw (value_in _ m (sym (said_is r e) ∙ q)) at o.gives;
+        }

@@ -1,31 +1,31 @@
--- Beyond RULES: what a run over the fields of a record hands back, by what each field says, and the outcome that follows. The public call is
--- held to the relation of the rules instead. Assumes nothing.
-use Rattle.std.specs.Prelude.{ℕ, ◌+◌, ◌≡◌, true, List, [], ◌∷◌, ℤ, length, set}
+-- Beyond RULES: what a run over the fields of a record hands back, by what each field says, and the outcome
+-- that follows. The public call is held to the relation of the rules instead. Assumes nothing.
+use Rattle.std.specs.Prelude.{ℕ, ◌+◌, List, [], ◌∷◌, ℤ, length, set, Result, Ok, Err, ⊤}
 use Rattle.std.proofs.Math.Option.{Option, none, some}
 use Rattle.rules.specs.declared.Answer.{Answer}
-use Rattle.rules.specs.Layout.{record_length}
+use Rattle.rules.specs.declared.Refusal.TheVariants.{Conversion}
+use Rattle.rules.specs.declared.Refused.{Refused}
 use Rattle.rules.specs.Answers.{record_answer, row_after}
-use Rattle.rules.specs.PlanBytes.{forms_in, is_plan}
+use Rattle.rules.specs.PlanBytes.{forms_in}
 use Rattle.rules.specs.Candidate.{read_all}
 use Rattle.totals.specs.declared.Sheet.{Sheet}
-use Rattle.totals.specs.declared.Added.{Added}
 use Rattle.totals.specs.Batch.{record_at}
-use Rattle.totals.specs.Totals.{batch_added, record_added}
+use Rattle.totals.specs.Totals.{Added, batch_added, record_added}
 
--- a plan, and a record of its length
-pub record Due (b rec : List ℕ) : Type 0 where
-  pub plan : is_plan b ≡ true
-  pub length : length rec ≡ record_length (forms_in b)
-
--- the 1-based first field that says nothing, or 0, and the values of the fields before it, each at its place
+-- what a run over the fields hands back, and the values of the fields before the one that says nothing, each
+-- at its place
 pub record Ran : Type 0 where
-  pub bad : ℕ
+  pub outcome : Result ⊤ Refused
   pub values : List ℤ
 
--- from field i on, with what the fields before it say in `values`: each value goes to its place, up to a field that says nothing
+abbrev pub says_nothing : ℕ → Result ⊤ Refused
+says_nothing field = Err (record { refusal = Conversion; field = field })
+
+-- from field i on, with what the fields before it say in `values`: each value goes to its place, up to a
+-- field that says nothing
 unfoldable pub ran_from : ℕ → List ℤ → List (Option ℤ) → Ran
-ran_from i values [] = record { bad = 0; values = values }
-ran_from i values (none ∷ os) = record { bad = i + 1; values = values }
+ran_from i values [] = record { outcome = Ok tt; values = values }
+ran_from i values (none ∷ os) = record { outcome = says_nothing (i + 1); values = values }
 ran_from i values (some m ∷ os) = ran_from (i + 1) (set values i m) os
 
 -- the candidate's outcome by bytes that are a plan: the answer, and the row

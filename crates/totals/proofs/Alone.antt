@@ -1,5 +1,5 @@
--- A record that stands alone: one of its own length is a batch of one record, and one of another length is refused. So additions of both kinds make one
--- history. Assumes nothing.
+-- A record that stands alone: one of its own length is a batch of one record, and one of another length is
+-- refused. So additions of both kinds make one history. Assumes nothing.
 use Prim.Native.Nat.{ℕ, suc, ◌*◌, ◌%◌, ◌≤◌}
 use mathlib.Core.Path.{◌≡◌, ◌∙◌, ap}
 use mathlib.Core.Bool.{true}
@@ -18,9 +18,8 @@ use Rattle.rules.specs.PlanBytes.{all_good}
 use Rattle.rules.proofs.Logic.{by_test}
 use Rattle.rules.proofs.Plans.{record_le}
 use Rattle.totals.specs.declared.Sheet.{Sheet}
-use Rattle.totals.specs.declared.Added.{Added}
 use Rattle.totals.specs.Batch.{placed}
-use Rattle.totals.specs.Totals.{BatchAddedIs, RecordAddedIs, add_before, added_by, batch_added, most_records, record_added}
+use Rattle.totals.specs.Totals.{Added, BatchAddedIs, RecordAddedIs, add_before, added_by, batch_added, most_records, record_added}
 use Rattle.totals.proofs.Places.{some_record, well_placed}
 
 module _ (φs : List Form) (rec : List ℕ) (s : Sheet) (r : Added) (g : all_good φs ≡ true) (some : 1 ≤ length φs) (few : length φs ≤ 32) where

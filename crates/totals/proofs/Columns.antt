@@ -1,7 +1,7 @@
--- A row of values beside the columns of a sheet, place by place; and the first place that is refused. Assumes nothing.
+-- A row of values beside the columns of a sheet, place by place; and the first place that is refused. Assumes
+-- nothing.
 use mathlib.Core.Path.{◌≡◌, refl, sym, ◌∙◌, ap}
-use mathlib.Core.Bool.{true, false, cond, ◌&&◌}
-use mathlib.Core.Logic.{⊎_elim}
+use mathlib.Core.Bool.{true, false, Bool, cond, ◌&&◌}
 use mathlib.Core.List.{List, [], ◌∷◌}
 use Prim.Native.Nat.{ℕ, zero, suc, ◌+◌, ◌<◌, ◌≤◌}
 use native.Mathlib.Nat.{le_of_suc-le-suc, not-suc-le-zero}
@@ -10,12 +10,13 @@ use native.Mathlib.Numerals.{add-one}
 use borrow.Author.Tests.{ne_eqb}
 use lib.Dec.{eqb}
 use lib.IntN.{ℤ, pos, ◌+ℤ◌}
-use lib.ListN.{length, get_or, take, set, length-take}
-use lib.Seq.{get_or-take}
+use lib.ListN.{length, get_or, take, set}
+use Rattle.std.specs.Prelude.{None, Option, Some}
 use Rattle.rules.specs.Numbers.{bad_field, first_of, later}
 use Rattle.rules.proofs.Firsts.{unless_zero}
-use Rattle.rules.proofs.Logic.{both, by_test, lt_or_le}
+use Rattle.rules.proofs.Logic.{both, by_test}
 use Rattle.totals.specs.Totals.{over, place_numbers, size_at, sum_fits}
+use Rattle.totals.specs.Steps.{before, first_bad}
 
 -- Columns.
 
@@ -63,6 +64,10 @@ module _ (f : ℤ → ℤ → ℤ) where
   over_rest (x ∷ xs) (m ∷ ms) (suc i) h = over_rest xs ms i (le_of_suc-le-suc h)
 
 -- The first that is refused.
+
+later_le : (k : ℕ) → later k ≤ k + 1
+later_le zero = omega arith
+later_le (suc k) = omega arith
 
 later_zero : (k : ℕ) → later k ≡ 0 → k ≡ 0
 later_zero zero h = refl
@@ -116,35 +121,53 @@ numbers_first [] (m ∷ ms) = refl
 numbers_first (s ∷ ss) (m ∷ ms) =
     by_test (sum_fits s && sum_fits (s +ℤ m)) (λ e. rw e (numbers_first ss ms ∙ later_same (bad_field (place_numbers ss ms)))) (λ e. rw e)
 
--- of the first values of a row, place by place
-module _ (ss row : List ℤ) (places : ℕ) (x : places ≤ length ss) (y : places ≤ length row) where
+-- Place by place.
+
+-- the sum handed in lies within, and the sum that the value brings
+abbrev pub fits_at : List ℤ → List ℤ → ℕ → Bool
+fits_at ss ms k = sum_fits (get_or ss k (pos 0)) && sum_fits (get_or ss k (pos 0) +ℤ get_or ms k (pos 0))
+
+bad_few : (ns : List ℕ) → bad_field ns ≤ length ns
+unfolding bad_field
+bad_few [] = omega arith
+bad_few (zero ∷ ns) = omega (arith, bad_few ns, later_le (bad_field ns))
+bad_few (suc n ∷ ns) = omega arith
+
+pub place_is : (n k : ℕ) → before n ≡ Some k → n ≡ k + 1
+place_is zero k h = cc
+place_is (suc n) k h = let e : n ≡ k = cc in omega arith
+
+pub no_place : (n : ℕ) → before n ≡ None → n ≡ 0
+no_place zero h = refl
+no_place (suc n) h = cc
+
+module _ (ss ms : List ℤ) (few : length ms ≤ length ss) where
   abbrev each : List ℕ
-  each = place_numbers ss (take places row)
+  each = place_numbers ss ms
 
-  pub taken_length : length (take places row) ≡ places
-  taken_length = simp length-take (omega arith)
+  each_length : length each ≡ length ms
+  each_length = length_numbers ss ms few
 
-  each_length : length each ≡ places
-  each_length = length_numbers ss (take places row) (omega (arith, taken_length)) ∙ taken_length
-
-  number_here : (i : ℕ) → i < places → get_or each i 0 ≡ size_at (get_or ss i (pos 0)) (get_or row i (pos 0))
-  number_here i l = numbers_at ss (take places row) i (omega arith) (omega (arith, taken_length)) ∙ rw (get_or-take places row i (pos 0) l)
+  number_here : (i : ℕ) → i < length ms → get_or each i 0 ≡ size_at (get_or ss i (pos 0)) (get_or ms i (pos 0))
+  number_here i l = numbers_at ss ms i (omega arith) l
 
   -- where none is refused every sum that the row brings fits
-  pub sums_fit : bad_field each ≡ 0 → (k : ℕ) → k < places → sum_fits (get_or ss k (pos 0) +ℤ get_or row k (pos 0)) ≡ true
+  pub sums_fit : bad_field each ≡ 0 → (k : ℕ) → k < length ms → sum_fits (get_or ss k (pos 0) +ℤ get_or ms k (pos 0)) ≡ true
   sums_fit h k l =
       let s = get_or ss k (pos 0) in
-      (both (sum_fits s) (sum_fits (s +ℤ get_or row k (pos 0))) (unless_zero _ 7 (sym (number_here k l) ∙ none_bad _ h k))).1
+      (both (sum_fits s) (sum_fits (s +ℤ get_or ms k (pos 0))) (unless_zero _ 7 (sym (number_here k l) ∙ none_bad _ h k))).1
 
-  module _ (i : ℕ) (l : i < places) (z : (j : ℕ) → j < i → get_or each j 0 ≡ 0) where
-    pub over_here : (sum_fits (get_or ss i (pos 0)) && sum_fits (get_or ss i (pos 0) +ℤ get_or row i (pos 0))) ≡ false → i + 1 ≡ bad_field each
-    over_here h =
-        let n : get_or each i 0 ≡ 0 → ⊥ = λ e. let q : ◌≡◌ {A = ℕ} 8 0 = rw (number_here i l, h) at e in omega arith in
-        rw add-one (sym (bad_at each i (omega (arith, each_length)) z n))
+  fit_here : (k : ℕ) → k < length ms → fits_at ss ms k ≡ true → get_or each k 0 ≡ 0
+  fit_here k l h = rw (number_here k l, h)
 
-    pub fits_here : (sum_fits (get_or ss i (pos 0)) && sum_fits (get_or ss i (pos 0) +ℤ get_or row i (pos 0))) ≡ true → (j : ℕ) → j < i + 1 → get_or each j 0 ≡ 0
-    fits_here h j m =
-        ⊎_elim (λ (q : j < i). z j q) (λ (q : i ≤ j). let e : j ≡ i = omega arith in rw (e, number_here i l, h)) (lt_or_le j i)
+  -- a search for the first place where a sum doesn't fit, by what it found
+  pub first_is : (o : Option ℕ) → ((k : ℕ) → o ≡ None → k < length ms → fits_at ss ms k ≡ true) → ((i : ℕ) → o ≡ Some i → (i < length ms) × (fits_at ss ms i ≡ false))
+      → ((i k : ℕ) → o ≡ Some i → k < i → fits_at ss ms k ≡ true) → o ≡ first_bad each
+  first_is None all here past = rw (bad_none each (λ j l. let q : j < length ms = omega (arith, each_length) in fit_here j q (all j refl q)))
+  first_is (Some i) all here past =
+      let h = here i refl in
+      let n : get_or each i 0 ≡ 0 → ⊥ = λ e. let q : ◌≡◌ {A = ℕ} 8 0 = rw (number_here i h.0, h.1) at e in omega arith in
+      rw (bad_at each i (omega (arith, each_length)) (λ j l. fit_here j (omega arith) (past i j refl l)) n)
 
-  pub all_fit : (i : ℕ) → places ≤ i → ((j : ℕ) → j < i → get_or each j 0 ≡ 0) → ◌≡◌ {A = ℕ} 0 (bad_field each)
-  all_fit i h z = sym (bad_none each (λ j q. z j (omega (arith, each_length))))
+  pub place_within : (i : ℕ) → first_bad each ≡ Some i → i < length ms
+  place_within i h = omega (arith, bad_few each, each_length, place_is (bad_field each) i h)

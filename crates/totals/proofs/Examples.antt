@@ -1,5 +1,5 @@
--- The lines on totals come out of the definitions, each list by computing. Where a list fails, `found l ≡ says l` of its lines one by one shows which.
--- Assumes nothing.
+-- The lines on totals come out of the definitions, each list by computing. Where a list fails, `found l ≡
+-- says l` of its lines one by one shows which. Assumes nothing.
 use mathlib.Core.Path.{◌≡◌, refl, sym, ap}
 use mathlib.Core.Bool.{Bool, true, false}
 use mathlib.Core.List.{List, [], ◌∷◌, map}
@@ -15,11 +15,8 @@ use Rattle.rules.specs.Sheet.{success}
 use Rattle.rules.proofs.Holding.{definitions}
 use Rattle.rules.proofs.Outcomes.{all_read}
 use Rattle.rules.proofs.Plans.{forms_good, no_layout}
-use Rattle.totals.specs.declared.Added.{Added}
-use Rattle.totals.specs.declared.Next.{Next}
-use Rattle.totals.specs.declared.Next.TheVariants.{End, Record}
-use Rattle.totals.specs.Batch.{NextIs, next_at, placed, record_at, whole_in}
-use Rattle.totals.specs.Totals.{add_before, added_by, empty_sheet, field_numbers, greater, lesser, over, batch_added, place_numbers, record_added, sum_fits, with_row}
+use Rattle.totals.specs.Batch.{End, Next, NextIs, Record, next_at, placed, record_at, whole_in}
+use Rattle.totals.specs.Totals.{Added, add_before, added_by, empty_sheet, field_numbers, greater, lesser, over, batch_added, place_numbers, record_added, sum_fits, with_row}
 use Rattle.totals.specs.History.{Along, goes_on, greatest_of, least_of, onward, stopped, total}
 use Rattle.totals.specs.Lines.{All, Holds, Line, adds, adds_alone, blank, finds, histories, limits, no_plan, no_plans, second, sums, three, walks, whole}
 

@@ -1,6 +1,7 @@
--- The history of a sheet: whatever was added by one plan since it was empty, it holds the totals of exactly the records that were accepted, and behind
--- a refusal it is what was handed in. Each addition is any that meets the contract, so that this holds of the code. An addition leaves the sheet or
--- has one row more, by the number that came back; the rest is an induction over the history. Assumes nothing.
+-- The history of a sheet: whatever was added by one plan since it was empty, it holds the totals of exactly
+-- the records that were accepted, and behind a refusal it is what was handed in. Each addition is any that
+-- meets the contract, so that this holds of the code. An addition leaves the sheet or has one row more, by
+-- the number that came back; the rest is an induction over the history. Assumes nothing.
 use Prim.Native.Nat.{ℕ, zero, suc, ◌<◌, ◌≤◌}
 use mathlib.Core.Path.{◌≡◌, refl, sym, ◌∙◌, ap}
 use mathlib.Core.Bool.{true, false, and-false, true≢false, false≢true}
@@ -22,9 +23,8 @@ use Rattle.rules.proofs.Logic.{by_test}
 use Rattle.rules.proofs.Outcomes.{of_layout, one_outcome, record_reads_one, reads_count}
 use Rattle.rules.proofs.Plans.{forms_count, forms_good}
 use Rattle.totals.specs.declared.Sheet.{Sheet}
-use Rattle.totals.specs.declared.Added.{Added}
 use Rattle.totals.specs.Batch.{placed, record_at}
-use Rattle.totals.specs.Totals.{AddIs, BatchAddedIs, RecordAddIs, RecordAddedIs, add_before, added_by, empty_sheet, field_numbers, greater, lesser, batch_added, over, record_added, sheet_by, with_row}
+use Rattle.totals.specs.Totals.{AddIs, Added, BatchAddedIs, RecordAddIs, RecordAddedIs, add_before, added_by, empty_sheet, field_numbers, greater, lesser, batch_added, over, record_added, sheet_by, with_row}
 use Rattle.totals.specs.History.{HoldsTotals, Offer, Rows, Went, alone, begun, column, further, greatest_of, is_accepted, kept, least_of, none as no_rows, passed, total}
 use Rattle.totals.proofs.Columns.{length_over, over_at, over_rest}
 use Rattle.totals.proofs.Alone.{as_batch, other_length}
@@ -249,7 +249,8 @@ module _ (b l : List ℕ) (p : HasPlan l b) where
   keeps _ _ (alone {h} {s} w rec r a) rows q =
       ⊎_elim (λ x. keeps_more rec 0 s r x rows (λ rs y. keeps h s w rs y) q) (λ x. keeps_refused rec 0 s r x.0 x.1 rows (λ rs y. keeps h s w rs y) q) (alone_as rec s r a)
 
-  -- the count, sums, least and greatest are those of the records accepted, and behind their places stands nothing
+  -- the count, sums, least and greatest are those of the records accepted, and behind their places stands
+  -- nothing
   pub history : (h : List Offer) (s : Sheet) → Went b h s → (rows : List (List ℤ)) → Rows φs h rows → HoldsTotals (row_length φs) s rows
   history h s w rows q = (keeps h s w rows q).holds
 

@@ -6,7 +6,7 @@ use mathlib.Core.Logic.{⊎_elim}
 use Prim.Native.Nat.{ℕ, suc, ◌+◌, ◌/◌, ◌%◌, ◌<◌, ◌≤◌}
 use native.Mathlib.Nat.{div-add-mod', mul-le-mul_right}
 use native.Mathlib.Omega.{arith}
-use borrow.Author.Tests.{le-leb, lt-leb, eq-eqb, ne_eqb, leb-true, eqb-true, eqb-false}
+use borrow.Author.Tests.{le-leb, eq-eqb, ne_eqb, leb-true, eqb-true, eqb-false}
 use lib.Dec.{leb, eqb}
 use lib.ListN.{length}
 use Rattle.rules.specs.Numbers.{unless}
@@ -20,8 +20,7 @@ use Rattle.rules.proofs.Forms.{good_parts}
 use Rattle.rules.proofs.Lists.{count_le}
 use Rattle.rules.proofs.Logic.{both, by_test, lt_or_le}
 use Rattle.rules.proofs.PlanWalk.{count_forms_in, plan_parts}
-use Rattle.totals.specs.declared.Next.TheVariants.{Record, End, Refused}
-use Rattle.totals.specs.Batch.{most_batch, next_at, next_number, placed, whole_in}
+use Rattle.totals.specs.Batch.{End, Record, Refused, most_batch, next_at, next_number, placed, whole_in}
 
 -- a record of a plan has a character at least
 pub some_record : (φs : List Form) → 1 ≤ length φs → all_good φs ≡ true → 1 ≤ record_length φs
@@ -60,22 +59,6 @@ pub record Here (n len at from to : ℕ) : Type 0 where
   pub within : at + n ≤ len
 
 module _ (n len at : ℕ) where
-  pub too_long : most_batch < len → placed n len at ≡ false
-  unfolding placed
-  too_long h = rw (lt-leb len most_batch h)
-
-  pub not_whole : len ≤ most_batch → (len % n ≡ 0 → ⊥) → placed n len at ≡ false
-  unfolding placed whole_in
-  not_whole h w = rw (le-leb len most_batch h, ne_eqb (len % n) 0 w)
-
-  pub beyond : len ≤ most_batch → len % n ≡ 0 → len < at → placed n len at ≡ false
-  unfolding placed whole_in
-  beyond h w l = rw (le-leb len most_batch h, eq-eqb (len % n) 0 w, lt-leb at len l)
-
-  pub no_start : len ≤ most_batch → len % n ≡ 0 → at ≤ len → (at % n ≡ 0 → ⊥) → placed n len at ≡ false
-  unfolding placed whole_in
-  no_start h w l v = rw (le-leb len most_batch h, eq-eqb (len % n) 0 w, le-leb at len l, ne_eqb (at % n) 0 v)
-
   pub well_placed : Fit n len at → placed n len at ≡ true
   unfolding placed whole_in
   well_placed f = rw (le-leb len most_batch f.short, eq-eqb (len % n) 0 f.whole, le-leb at len f.inside, eq-eqb (at % n) 0 f.start)

@@ -1,4 +1,5 @@
--- Adding a row, at each way through the code: full, a sum too big, and the sheet with a record more. Assumes nothing.
+-- Adding a row, at each way through the code: full, a sum too big, and the sheet with a record more. Assumes
+-- nothing.
 use Prim.Native.Nat.{ℕ, ◌<◌, ◌≤◌, min}
 use mathlib.Core.Path.{◌≡◌}
 use mathlib.Core.List.{List}
@@ -13,27 +14,27 @@ use Rattle.rules.specs.Layout.{most_pictures}
 use Rattle.rules.specs.Answers.{answer_over, number_over}
 use Rattle.rules.proofs.Logic.{lt_or_le}
 use Rattle.totals.specs.declared.Sheet.{Sheet}
-use Rattle.totals.specs.Totals.{most_records, place_numbers, row_added, with_row}
-use Rattle.totals.specs.Steps.{unchanged_by}
+use Rattle.totals.specs.Totals.{Added, most_records, place_numbers, row_added, with_row}
 use Rattle.totals.proofs.Columns.{numbers_first}
 
--- a row of 32 has no more values than that
-pub row_taken : (places : ℕ) (row : List ℤ) → length row ≡ most_pictures → take (min places most_pictures) row ≡ take places row
-row_taken places row h =
+-- a row of which 32 values are taken at the most
+pub row_taken : (row : List ℤ) → take (min (length row) most_pictures) row ≡ take most_pictures row
+row_taken row =
     ⊎_elim
-    (λ (l : most_pictures < places).
-    let e : min places most_pictures ≡ most_pictures = omega arith in
-    rw (e, take_all most_pictures row (omega arith), take_all places row (omega arith)))
-    (λ (l : places ≤ most_pictures). let e : min places most_pictures ≡ places = omega arith in rw e)
-    (lt_or_le most_pictures places)
+    (λ (l : most_pictures < length row). let e : min (length row) most_pictures ≡ most_pictures = omega arith in rw e)
+    (λ (l : length row ≤ most_pictures). let e : min (length row) most_pictures ≡ length row = omega arith in rw (e, take_all most_pictures row l, take_all (length row) row (omega arith)))
+    (lt_or_le most_pictures (length row))
+
+abbrev refused : ℕ → ℕ → Sheet → Added
+refused n field s = record { answer = record { number = n; field = field; length = 0; value = pos 0 }; sheet = s }
 
 module _ (s : Sheet) (ms : List ℤ) where
-  pub full_way : most_records ≤ s.count → unchanged_by 14 0 s ≡ row_added s ms
+  pub full_way : most_records ≤ s.count → refused 14 0 s ≡ row_added s ms
   unfolding row_added answer_over number_over first_of
   full_way l = rw (le-leb most_records s.count l)
 
   module _ (l : s.count < most_records) where
-    pub size_way : (bad_field (place_numbers s.sums ms) ≡ 0 → ⊥) → unchanged_by 8 (bad_field (place_numbers s.sums ms)) s ≡ row_added s ms
+    pub size_way : (bad_field (place_numbers s.sums ms) ≡ 0 → ⊥) → refused 8 (bad_field (place_numbers s.sums ms)) s ≡ row_added s ms
     unfolding row_added answer_over number_over first_of
     size_way n = rw (lt-leb most_records s.count l, numbers_first s.sums ms, ne_eqb (bad_field (place_numbers s.sums ms)) 0 n)
 

@@ -1,5 +1,6 @@
--- Walks over a batch: what is asked at a place is one outcome, the records come in order and then the end, and a whole batch is a sequence of
--- additions at these places, so that what the history says holds behind it. Assumes nothing.
+-- Walks over a batch: what is asked at a place is one outcome, the records come in order and then the end,
+-- and a whole batch is a sequence of additions at these places, so that what the history says holds behind
+-- it. Assumes nothing.
 use Prim.Native.Nat.{ℕ, ◌+◌, ◌-◌, ◌*◌, ◌%◌, ◌<◌, ◌≤◌}
 use mathlib.Core.Path.{◌≡◌, refl, sym, ◌∙◌, ap}
 use mathlib.Core.Bool.{true, true≢false}
@@ -11,16 +12,14 @@ use Rattle.rules.specs.Layout.{HasPlan, forms, record_length}
 use Rattle.rules.specs.Answers.{as_layout}
 use Rattle.rules.proofs.Outcomes.{of_layout, one_outcome}
 use Rattle.totals.specs.declared.Sheet.{Sheet}
-use Rattle.totals.specs.declared.Added.{Added}
-use Rattle.totals.specs.declared.Batched.{Batched}
-use Rattle.totals.specs.declared.Next.{Next}
-use Rattle.totals.specs.declared.Next.TheVariants.{Record, End}
-use Rattle.totals.specs.Batch.{NextIs, next_at, placed}
-use Rattle.totals.specs.History.{Along, Offer, Went, further, in_turn, onward, stopped}
+use Rattle.totals.specs.Batch.{End, Next, NextIs, Record, next_at, placed}
+use Rattle.totals.specs.Totals.{Added}
+use Rattle.totals.specs.History.{Along, Batched, Offer, Went, further, in_turn, onward, stopped}
 use Rattle.totals.proofs.Places.{fit, next_end, next_is, was_record, well_placed}
 use Rattle.totals.proofs.Past.{add_one}
 
--- The records come in order, each behind the one before, and then the end, which is found again however often it is asked for.
+-- The records come in order, each behind the one before, and then the end, which is found again however often
+-- it is asked for.
 
 fits_on : (n len at : ℕ) → placed n len 0 ≡ true → at ≤ len → at % n ≡ 0 → placed n len at ≡ true
 fits_on n len at p l m =
@@ -64,7 +63,8 @@ module _ (b batch : List ℕ) where
       let t : to ≡ to' = cc in
       along_one to a.sheet r q g (rw (t, i) g')
 
--- A whole batch goes on with a history: each addition stands in it with its number, at the places of the batch in turn, up to the one that stopped.
+-- A whole batch goes on with a history: each addition stands in it with its number, at the places of the
+-- batch in turn, up to the one that stopped.
 module _ (b l batch : List ℕ) (p : HasPlan l b) where
   next_place : (at to : ℕ) → NextIs b batch at (Record at to) → to ≡ at + record_length (forms l)
   next_place at to x =

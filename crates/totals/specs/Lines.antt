@@ -1,5 +1,6 @@
--- RULES 10, lines on totals: what goes in and what comes out in plain numbers and texts, by no name of a definition, as the lines of crate `rules`.
--- proofs/Examples.antt proves that all of them hold. Assumes nothing.
+-- RULES 10, lines on totals: what goes in and what comes out in plain numbers and texts, by no name of a
+-- definition, as the lines of crate `rules`. proofs/Examples.antt proves that all of them hold. Assumes
+-- nothing.
 use Rattle.std.specs.Prelude.{ℕ, ◌-◌, ◌≡◌, List, [], ◌∷◌, ◌++◌, ℤ, pos, length, replicate}
 use Prim.Native.String.{String}
 use Rattle.rules.specs.declared.Answer.{Answer}
@@ -7,14 +8,13 @@ use Rattle.rules.specs.Words.{text}
 use Rattle.rules.specs.Layout.{forms, plan_of}
 use Rattle.rules.specs.Sheet.{minus, refusal, success}
 use Rattle.totals.specs.declared.Sheet.{Sheet}
-use Rattle.totals.specs.declared.Next.{Next}
-use Rattle.totals.specs.declared.Next.TheVariants.{Record, End, Refused}
-use Rattle.totals.specs.Batch.{NextIs, next_at}
+use Rattle.totals.specs.Batch.{End, Next, NextIs, Record, Refused, next_at}
 use Rattle.totals.specs.Totals.{AddIs, RecordAddIs}
 use Rattle.totals.specs.History.{greatest_of, least_of, total}
 
 pub data Line : Type 0 where
-  -- by the layout's plan, the record at this place of the batch added to the sheet gives this answer and leaves that sheet
+  -- by the layout's plan, the record at this place of the batch added to the sheet gives this answer and
+  -- leaves that sheet
   adds : String → String → ℕ → Sheet → Answer → Sheet → Line
   -- and so does a record that stands alone
   adds_alone : String → String → Sheet → Answer → Sheet → Line
@@ -77,7 +77,8 @@ whole =
     adds_alone "ZZ9V.99;-9;" "" blank (refusal 9 0) blank ∷
     adds_alone "ZZ9V.99;-9;" "   .00 8" first (refusal 10 1) first ∷ []
 
--- RULES 9.4 to 9.7: the limits, each on both sides, either way; which refusal comes first; what the first record sets; places behind the fields
+-- RULES 9.4 to 9.7: the limits, each on both sides, either way; which refusal comes first; what the first
+-- record sets; places behind the fields
 abbrev pub limits : List Line
 limits =
     adds "9;" "8" 0 (sheet_of 8999 [] [] []) (success 1 (pos 0)) (sheet_of 9000 (pos 8 ∷ []) [] (pos 8 ∷ [])) ∷

@@ -2,13 +2,23 @@
 use Rattle.std.specs.Prelude.{ℕ, zero, suc, ◌+◌, ◌^◌, ◌≡◌, Bool, cond, ◌&&◌, List, [], ◌∷◌, ℤ, pos, nat_abs, ◌+ℤ◌, leb, ltb, eqb, length, replicate}
 use Rattle.std.proofs.Math.Option.{Option}
 use Rattle.std.specs.Int.Signed.{le_z}
+use Rattle.rules.specs.declared.Answer.{Answer}
 use Rattle.rules.specs.Numbers.{FULL, LENGTH, PLAN, SIZE, first_of, unless, when}
+use Rattle.rules.specs.Refusals.{fields_answer}
 use Rattle.rules.specs.Form.{Form}
 use Rattle.rules.specs.Layout.{most_pictures, record_length}
 use Rattle.rules.specs.Answers.{ByPlan, RecordReads, amounts, answer, answer_over, number_over, unsaid}
 use Rattle.totals.specs.declared.Sheet.{Sheet}
-use Rattle.totals.specs.declared.Added.{Added}
+use Rattle.totals.specs.declared.Added.{Added as CodeAdded}
 use Rattle.totals.specs.Batch.{placed, record_at}
+
+-- what an addition hands back: the answer, and the sheet beside it; and the same of what the code hands back
+pub record Added : Type 0 where
+  pub answer : Answer
+  pub sheet : Sheet
+
+abbrev pub added_in : CodeAdded → Added
+added_in a = record { answer = fields_answer a.outcome; sheet = a.sheet }
 
 -- RULES 9.4: so many records at most
 abbrev pub most_records : ℕ
@@ -75,7 +85,8 @@ row_added s ms = record {
   sheet = sheet_by (number_over (fullness s) (place_numbers s.sums ms) 0) s ms;
 }
 
--- The number that each field of a record gets: SIZE is judged where every field has a value, and a field has the sum at the place of its value.
+-- The number that each field of a record gets: SIZE is judged where every field has a value, and a field has
+-- the sum at the place of its value.
 unfoldable pub field_numbers : Sheet → List (Option ℤ) → List ℕ
 field_numbers s os = cond (eqb (first_of (unsaid os)) 0) (place_numbers s.sums (amounts os)) (unsaid os)
 

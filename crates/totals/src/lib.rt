@@ -1,25 +1,25 @@
-// A totals sheet (RULES 9): how many records were added and, for each place of a row, the sum, least and greatest of its values. An
-// addition takes the sheet and hands it back. What an addition by a plan answers, and what a walk over a batch hands over, is defined here
-// too (specs/); crate `planread` has the calls.
+// A totals sheet (RULES 9): how many records were added and, for each place of a row, the sum, least and
+// greatest of its values. What an addition by a plan answers, and what a walk over a batch hands over, is
+// defined here too (specs/); crate `planread` has the calls.
 #![tactic(auto)]
 
 mod sums; // sums.rt: which sums are too big, and the lesser and the greater of two numbers
 
-ghost use Rattle.std.specs.Prelude.{◌≡◌, min, take};
+ghost use Rattle.std.specs.Prelude.{◌≡◌, take};
 ghost use Rattle.rules.specs.Layout.{most_pictures};
-ghost use Rattle.totals.specs.Totals.{empty_sheet, row_added, with_row};
-ghost use Rattle.totals.specs.Steps.{RowFits, unchanged_by};
+ghost use Rattle.totals.specs.Totals.{added_in, empty_sheet, row_added, with_row};
+ghost use Rattle.totals.specs.Steps.{RowFits};
 
-use answer::done;
-use rules::{Answer, MOST_PICTURES};
-use sums::{first_over, greater_of, lesser_of, plus};
+use rules::{MOST_PICTURES, Refusal, Refused};
+use sums::{first_over, greater, lesser};
 
 // The records that a sheet takes (RULES 9.4), and the bytes of a batch (9.1).
 pub const MOST_RECORDS: usize = 9000;
 
 pub const MOST_BATCH: usize = 65536;
 
-// What is kept of the records added (RULES 9.4).
+// What is kept of the records added (RULES 9.4). The columns stand apart, as they do in the run of bytes that
+// C programs hand in (9.10).
 #[derive(Clone, Copy)]
 pub struct Sheet {
     pub count: usize,
@@ -28,29 +28,21 @@ pub struct Sheet {
     pub greatest: [i64; MOST_PICTURES],
 }
 
-// What an addition hands back: the answer, and the sheet beside it.
+// What an addition hands back: the values that were taken, or the refusal, and the sheet beside it. Behind a
+// refusal it is the sheet that was handed in.
 #[derive(Clone, Copy)]
 pub struct Added {
-    pub answer: Answer,
+    pub outcome: Result<usize, Refused>,
     pub sheet: Sheet,
 }
 
-// What a whole batch gives: the answer that the adding stopped with, number 0 at the batch's end; the place where it stopped; and the sheet
-// with those records of it that were accepted.
+// What a whole batch gives: the outcome that the adding stopped with, 0 at the batch's end; the place where
+// it stopped; and the sheet with those records of it that were accepted.
 #[derive(Clone, Copy)]
 pub struct Batched {
-    pub answer: Answer,
+    pub outcome: Result<usize, Refused>,
     pub place: usize,
     pub sheet: Sheet,
-}
-
-// What a walk over a batch hands over (RULES 9.3): a record, from its first byte up to the second number; the end; or a refusal with its
-// number.
-#[derive(Clone, Copy)]
-pub enum Next {
-    Record(usize, usize),
-    End,
-    Refused(u8),
 }
 
 impl Sheet {
@@ -66,60 +58,51 @@ impl Sheet {
         }
     }
 
-    // One row more, of as many values as there are places, 32 at the most: FULL, then SIZE at the first place whose sum is too big, handed in
-    // or brought. All places are judged before the first is added to.
-    pub fn add(mut self, row: [i64; MOST_PICTURES], places: usize) -> Added
-        ensures { result ≡ row_added self (take places row) }
+    // One row more, of whose values 32 are taken at the most; how many is the outcome. FULL, then SIZE at the
+    // first place whose sum is too big, handed in or brought. All places are judged before the first is added
+    // to.
+    pub fn add(mut self, row: &[i64]) -> Added
+        ensures { added_in result ≡ row_added self (take most_pictures row.now) }
     {
         if MOST_RECORDS <= self.count {
-            return self.unchanged(14, 0);
+            return self.unchanged(Err(Refusal::Full.into()));
         }
-        let count = within_row(places);
-        let sums = self.sums;
-        let bad = first_over(sums, row, count);
-        if bad != 0 {
-            return self.unchanged(8, bad);
+        let taken = &row[..row.len().min(MOST_PICTURES)];
+        if let Some(place) = first_over(self.sums, taken) {
+            return self.unchanged(Err(Refused {
+                refusal: Refusal::Size,
+                field: place as u8 + 1,
+            }));
         }
-        self = self.with_row(row, count);
+        self = self.with_row(taken);
         Added {
-            answer: done(count, 0),
+            outcome: Ok(taken.len()),
             sheet: self,
         }
     }
 
-    // The sheet with one record more, whose values are the row's first.
-    fn with_row(mut self, row: [i64; MOST_PICTURES], places: usize) -> Sheet
-        requires { RowFits self row places }
-        ensures { result ≡ with_row self (take places row) }
+    // The sheet with one record more, of these values.
+    fn with_row(mut self, row: &[i64]) -> Sheet
+        requires { RowFits self row.now }
+        ensures { result ≡ with_row self row.now }
     {
         let first = self.count == 0;
-        for i in 0..places {
-            let m = row[i];
-            self.sums[i] = plus(self.sums[i], m);
-            self.least[i] = lesser_of(first, self.least[i], m);
-            self.greatest[i] = greater_of(first, self.greatest[i], m);
+        for (i, m) in row.iter().enumerate() {
+            self.sums[i] += *m;
+            self.least[i] = lesser(first, self.least[i], *m);
+            self.greatest[i] = greater(first, self.greatest[i], *m);
         }
         self.count += 1;
         self
     }
 
-    // The sheet as it was, beside an answer without a length: a refusal, or number 0 where there was nothing to add.
-    pub fn unchanged(self, number: u8, field: u8) -> Added
-        ensures { result ≡ unchanged_by number field self }
+    // The sheet as it was, beside a refusal, or beside 0 where there was nothing to add.
+    pub fn unchanged(self, outcome: Result<usize, Refused>) -> Added
+        ensures { result ≡ record { outcome = outcome; sheet = self } }
     {
         Added {
-            answer: answer::refused(number, field),
+            outcome,
             sheet: self,
         }
     }
-}
-
-// A row has 32 places.
-fn within_row(places: usize) -> usize
-    ensures { result ≡ min places most_pictures }
-{
-    if MOST_PICTURES < places {
-        return MOST_PICTURES;
-    }
-    places
 }

@@ -1,13 +1,14 @@
-// A walker over a batch (RULES 9.3): a batch that is lent and where its next record begins, in one struct, so that whoever walks has one thing to keep.
-// What stands at a place is decided in `planread::batch::next`, by a run and a place; a walker only holds them. Its functions have no branch
-// and no loop.
+// A walker over a batch (RULES 9.3): a batch that is lent and where its next record begins, in one struct, so
+// that whoever walks has one thing to keep. What stands at a place is decided in `planread::batch::next`, by
+// a run and a place; a walker only holds them. Its functions have no branch and no loop.
 #![tactic(auto)]
 
 ghost use Rattle.std.specs.Prelude.{◌≡◌};
-ghost use Rattle.totals.specs.Batch.{NextIs};
+ghost use Rattle.totals.specs.Batch.{NextIs, handed};
 
 use planread::batch;
-use totals::Next;
+use rules::Refusal;
+use std::ops::Range;
 
 // A walker is Copy: one that is asked or moved is still there.
 #[derive(Clone, Copy)]
@@ -25,8 +26,8 @@ impl<'a> Walker<'a> {
     }
 
     // The record at the walker's place, the end, PLAN or LENGTH. A record comes as its bounds in the batch.
-    pub fn next(self, plan: &[u8]) -> Next
-        ensures { NextIs plan.now self.entry.batch.now self.entry.place result }
+    pub fn next(self, plan: &[u8]) -> Result<Option<Range<usize>>, Refusal>
+        ensures { NextIs plan.now self.entry.batch.now self.entry.place (handed result) }
     {
         batch::next(plan, self.batch, self.place)
     }
@@ -35,16 +36,14 @@ impl<'a> Walker<'a> {
     pub fn moved(self, place: usize) -> Walker<'a>
         ensures { (result.batch ≡ self.entry.batch) × (result.place ≡ place) }
     {
-        Walker {
-            batch: self.batch,
-            place,
-        }
+        Walker { place, ..self }
     }
 }
 
-// A walker made at the place and asked: it hands over what the run and the place do, by the contract of `planread::batch::next` word for word.
-pub fn next_at(plan: &[u8], batch: &[u8], place: usize) -> Next
-    ensures { NextIs plan.now batch.now place result }
+// A walker made at the place and asked: it hands over what the run and the place do, by the contract of
+// `planread::batch::next` word for word.
+pub fn next_at(plan: &[u8], batch: &[u8], place: usize) -> Result<Option<Range<usize>>, Refusal>
+    ensures { NextIs plan.now batch.now place (handed result) }
 {
     Walker::new(batch, place).next(plan)
 }

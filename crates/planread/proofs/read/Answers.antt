@@ -1,16 +1,16 @@
--- `planread::read` meets its contract: bytes that are no plan are refused, and by a plan the outcome is that of its forms. Assumes nothing.
-use mathlib.Core.Path.{refl, sym, ◌∙◌}
+-- `planread::read` meets its contract: bytes that are no plan are refused, and by a plan the outcome is that
+-- of its forms. Assumes nothing.
+use mathlib.Core.Path.{refl, ◌∙◌}
+use Rattle.rules.proofs.Refusing.{passed_on, test_failed}
 use Rattle.planread.proofs.Ways.{by_forms, no_plan_here}
 use Rattle.planread.proofs.read.Goals as goal
 
-pub returns-then-not-is_plan : goal.returns-then-not-is_plan
-returns-then-not-is_plan c =
-    no_plan_here _ _ _ _ _ (sym c.is_plan.ensures ∙ c.if-not-is_plan.true) c.refused.ensures refl
-
-pub read_record-requires : goal.read_record-requires
-read_record-requires c = sym c.is_plan.ensures ∙ c.if-not-is_plan.false
+pub returns-in_err-new : goal.returns-in_err-new
+returns-in_err-new c =
+    let f = test_failed _ _ _ c.in_err-new.ensures.number in
+    no_plan_here _ _ _ _ _ f.0 (passed_on _ _ c.from_residual.ensures.1 ∙ rw f.1) refl
 
 pub returns : goal.returns
 returns c =
-    let w = c.read_record.ensures in
-    by_forms _ _ _ _ _ (sym c.is_plan.ensures ∙ c.if-not-is_plan.false) w.answer w.memory
+    let e = c.in_ok-new.ensures.plan in
+    by_forms _ _ _ _ _ (rw e at c.in_ok-new.field-0.accepted) (rw e at c.read_record.ensures.answer) (rw e at c.read_record.ensures.memory)

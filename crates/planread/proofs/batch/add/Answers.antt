@@ -1,17 +1,10 @@
--- `planread::batch::add` meets its contract: bytes that are no plan are refused, and by a plan the outcome is that of its forms. Assumes nothing.
-use mathlib.Core.Path.{sym, ◌∙◌}
-use mathlib.Core.Bool.{true≢false}
-use Rattle.rules.proofs.Outcomes.{by_plan_lem}
-use Rattle.planread.proofs.Additions.{placed_is}
+-- `planread::batch::add` meets its contract: bytes that are no plan are refused, and by a plan the outcome is
+-- that of its forms. Assumes nothing.
+use Rattle.planread.proofs.Additions.{none_placed, placed_is}
 use Rattle.planread.proofs.batch.add.Goals as goal
 
-pub returns-then-not-is_plan : goal.returns-then-not-is_plan
-returns-then-not-is_plan c =
-    let n = sym c.is_plan.ensures ∙ c.if-not-is_plan.true in
-    by_plan_lem _ _ _ (λ _. c.unchanged.ensures) (λ h. absurd (true≢false (sym h ∙ n)))
+pub returns-in-Ok : goal.returns-in-Ok
+returns-in-Ok c = rw c.in-Ok.ensures.plan at (placed_is _ c.in-Ok.plan.accepted _ _ _ _ c.added_at.ensures)
 
-pub added_at-requires : goal.added_at-requires
-added_at-requires c = sym c.is_plan.ensures ∙ c.if-not-is_plan.false
-
-pub returns : goal.returns
-returns c = placed_is _ (sym c.is_plan.ensures ∙ c.if-not-is_plan.false) _ _ _ _ c.added_at.ensures
+pub returns-in-Err : goal.returns-in-Err
+returns-in-Err c = rw (c.unchanged.ensures, c.into.ensures) (none_placed _ _ c.in-Err.ensures.number _ _ _)

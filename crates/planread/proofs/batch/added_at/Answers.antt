@@ -1,48 +1,46 @@
--- `planread::batch::added_at` meets its contract: each way through it is a law of Additions, by what was found at the place. Assumes nothing.
+-- `planread::batch::added_at` meets its contract: each way through it is a law of Additions, by what was
+-- found at the place. Assumes nothing.
 use mathlib.Core.Path.{sym, ◌∙◌}
 use borrow.Author.Rules.{rules}
 use native.Mathlib.Omega.{arith}
 use lib.ListN.{length}
 use Rattle.totals.proofs.Places.{Here, was_end, was_record, was_refused}
-use Rattle.planread.proofs.Additions.{end_place, full_place, length_place, part_place}
+use Rattle.planread.proofs.Additions.{end_place, full_place, length_place, part_place, size_fits}
 use Rattle.planread.proofs.batch.added_at.Goals as goal
-use Rattle.planread.proofs.batch.added_at.Goals.{In-Record-2}
 
 pub returns-then-sheet-ge-MOST_RECORDS : goal.returns-then-sheet-ge-MOST_RECORDS
-returns-then-sheet-ge-MOST_RECORDS c = c.unchanged.ensures ∙ full_place _ _ _ _ (omega (arith, c.if-sheet-ge-MOST_RECORDS.true))
+returns-then-sheet-ge-MOST_RECORDS c = rw (c.unchanged.ensures, c.into.ensures) (full_place _ _ _ _ (omega (arith, c.if-sheet-ge-MOST_RECORDS.true)))
+
+pub next_of-requires : goal.next_of-requires
+next_of-requires c = rw c.record_length.ensures (size_fits _ c.args.plan.accepted)
 
 pub slice_bounds-added-count : goal.slice_bounds-added-count
 slice_bounds-added-count c =
-    let here : (Here c.record_size.result (length c.args.batch.now) c.args.place c.in-Record.from c.in-Record.to) =
-    was_record _ _ _ _ _ (sym c.next_of-next.ensures ∙ c.in-Record.is) in
-    let h = here in omega (arith, h.first, h.last)
+    let here = was_record _ _ _ _ _ (sym (rw c.in-Ok-Some.field-0-is at c.in-Ok-Some.ensures)) in
+    omega (arith, here.first, here.last)
 
 pub slice_bounds-added-start : goal.slice_bounds-added-start
 slice_bounds-added-start c =
-    let here : (Here c.record_size.result (length c.args.batch.now) c.args.place c.in-Record.from c.in-Record.to) =
-    was_record _ _ _ _ _ (sym c.next_of-next.ensures ∙ c.in-Record.is) in
-    let h = here in search rules
+    let h : Here c.record_length.result (length c.args.batch.now) c.args.place c.in-Ok-Some.here.start c.in-Ok-Some.here.end = was_record _ _ _ _ _ (sym (rw c.in-Ok-Some.field-0-is at c.in-Ok-Some.ensures)) in
+    search rules
 
 pub slice_bounds-added-end : goal.slice_bounds-added-end
 slice_bounds-added-end c =
-    let here : (Here c.record_size.result (length c.args.batch.now) c.args.place c.in-Record.from c.in-Record.to) =
-    was_record _ _ _ _ _ (sym c.next_of-next.ensures ∙ c.in-Record.is) in
-    let h = here in search rules
+    let h : Here c.record_length.result (length c.args.batch.now) c.args.place c.in-Ok-Some.here.start c.in-Ok-Some.here.end = was_record _ _ _ _ _ (sym (rw c.in-Ok-Some.field-0-is at c.in-Ok-Some.ensures)) in
+    search rules
 
-pub returns-in-Refused : goal.returns-in-Refused
-returns-in-Refused c =
-    let w = was_refused _ _ _ _ (sym c.next_of-next.ensures ∙ c.in-Refused.is) in
-    c.unchanged-in-Refused.ensures ∙ rw w.1 (length_place _ _ _ _ (omega (arith, c.if-sheet-ge-MOST_RECORDS.false)) (rw c.record_size.ensures.0 at w.0))
-
-pub returns-in-End : goal.returns-in-End
-returns-in-End c =
-    let w = was_end _ _ _ (sym c.next_of-next.ensures ∙ c.in-End.is) in
-    c.unchanged-in-End.ensures ∙ end_place _ _ _ _ (omega (arith, c.if-sheet-ge-MOST_RECORDS.false)) (rw c.record_size.ensures.0 at w.0) w.1
-
-pub returns-in-Record : goal.returns-in-Record
-returns-in-Record c =
-    let here : (Here c.record_size.result (length c.args.batch.now) c.args.place c.in-Record.from c.in-Record.to) =
-    was_record _ _ _ _ _ (sym c.next_of-next.ensures ∙ c.in-Record.is) in
-    let h = here in
-    let e = c.record_size.ensures.0 in
+pub returns-in-Ok-Some : goal.returns-in-Ok-Some
+returns-in-Ok-Some c =
+    let h = was_record _ _ _ _ _ (sym (rw c.in-Ok-Some.field-0-is at c.in-Ok-Some.ensures)) in
+    let e = c.record_length.ensures in
     c.added.ensures ∙ part_place _ _ _ _ (rw e at h.fits) h.more (rw e at h.within) _ _ h.first (rw e at h.last)
+
+pub returns-in-Ok-None : goal.returns-in-Ok-None
+returns-in-Ok-None c =
+    let w = was_end _ _ _ (sym (rw c.in-Ok-None.field-0-is at c.in-Ok-None.ensures)) in
+    rw c.unchanged-in-Ok-None.ensures (end_place _ _ _ _ (omega (arith, c.if-sheet-ge-MOST_RECORDS.false)) (rw c.record_length.ensures at w.0) w.1)
+
+pub returns-in-Err : goal.returns-in-Err
+returns-in-Err c =
+    let w = was_refused _ _ _ _ (sym c.in-Err.ensures) in
+    rw (c.unchanged-in-Err.ensures, c.into-in-Err.ensures, w.1) (length_place _ _ _ _ (omega (arith, c.if-sheet-ge-MOST_RECORDS.false)) (rw c.record_length.ensures at w.0))

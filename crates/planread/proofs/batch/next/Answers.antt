@@ -1,15 +1,14 @@
--- `planread::batch::next` meets its contract: bytes that are no plan are refused, and by a plan the place decides. Assumes nothing.
-use mathlib.Core.Path.{sym, ◌∙◌}
-use Rattle.planread.proofs.Additions.{next_is, next_none}
+-- `planread::batch::next` meets its contract: bytes that are no plan are refused, and by a plan the place
+-- decides. Assumes nothing.
+use Rattle.planread.proofs.Additions.{next_is, next_none, size_fits}
+use Rattle.planread.proofs.Refusing.{handed_on}
 use Rattle.planread.proofs.batch.next.Goals as goal
 
-pub returns-then-not-is_plan : goal.returns-then-not-is_plan
-returns-then-not-is_plan c =
-    next_none _ c.args.batch.now c.args.place (sym c.is_plan.ensures ∙ c.if-not-is_plan.true)
+pub returns-in_err-plan : goal.returns-in_err-plan
+returns-in_err-plan c = rw (handed_on _ _ c.from_residual.ensures.1) (next_none _ _ c.in_err-plan.ensures.number _ _)
 
-pub record_size-requires : goal.record_size-requires
-record_size-requires c = sym c.is_plan.ensures ∙ c.if-not-is_plan.false
+pub next_of-requires : goal.next_of-requires
+next_of-requires c = rw c.record_length.ensures (size_fits _ c.in_ok-plan.plan.accepted)
 
 pub returns : goal.returns
-returns c =
-    next_is _ (sym c.is_plan.ensures ∙ c.if-not-is_plan.false) c.args.batch.now c.args.place _ _ c.record_size.ensures.0 c.next_of.ensures
+returns c = rw c.in_ok-plan.ensures.plan at (next_is _ c.in_ok-plan.plan.accepted _ _ _ _ c.record_length.ensures c.next_of.ensures)

@@ -1,13 +1,15 @@
--- `planread::run::run_fields` meets its contract: each turn, the stop and the end are laws of Turns. A plan has at most 32 fields and is longer
--- than its headers, which bounds every index. Assumes nothing.
-use mathlib.Core.Path.{◌≡◌}
-use Prim.Native.Nat.{◌+◌, ◌-◌, ◌*◌, ◌≤◌}
-use Rattle.rules.proofs.PlanWalk.{field_count}
+-- `planread::run::run_fields` meets its contract: each turn, the stop and the end are laws of Turns. Assumes
+-- nothing.
+use Rattle.rules.specs.PlanBytes.{forms_in}
+use Rattle.rules.specs.Candidate.{read_all}
+use Rattle.plan.specs.Walk.{forms_left}
+use Rattle.planread.specs.Runs.{ran_from}
 use Rattle.planread.proofs.Turns.{Onward}
 use Rattle.planread.proofs.run.run_fields.Given as goal
 
 abbrev pub invariant-loop-i : goal.invariant-loop-i
-invariant-loop-i l = (l.i ≤ l.count) × (l.count ≡ field_count l.plan) × (l.count ≤ 32) × (3 * l.count + 3 ≤ l.at) × Onward l.plan l.«record» l.initial.values l.values l.at l.from l.i
-
-abbrev pub decreases-loop-i : goal.decreases-loop-i
-decreases-loop-i l = l.count - l.i
+invariant-loop-i l = record {
+  can : (goal.iterator-loop-i).can_next l.i-iterator;
+  finite : (goal.iterator-loop-i).is_finite l.i-iterator;
+  onward : Onward (forms_left l.i-iterator.iter) l.rest l.values l.i-iterator.count (ran_from 0 l.initial.values (read_all (forms_in l.plan.bytes.now) l.«record»));
+}

@@ -1,42 +1,55 @@
 -- `totals::Sheet::add` meets its contract: each way through it is a law of Ways. Assumes nothing.
 use mathlib.Core.Path.{◌≡◌, sym, ◌∙◌}
+use Prim.Native.Nat.{◌<◌, ◌≤◌}
 use native.Mathlib.Omega.{arith}
 use borrow.Author.Rules.{rules}
-use lib.ListN.{length, take}
-use Rattle.totals.proofs.Columns.{sums_fit, taken_length}
+use lib.ListN.{length, take, length-take}
+use Rattle.rules.specs.Numbers.{bad_field}
+use Rattle.rules.specs.Layout.{most_pictures}
+use Rattle.totals.specs.Totals.{place_numbers}
+use Rattle.totals.proofs.Columns.{no_place, place_is, place_within, sums_fit}
 use Rattle.totals.proofs.Ways.{added_way, full_way, row_taken, size_way}
 use Rattle.totals.proofs.Sheet.add.Goals as goal
-use Rattle.totals.proofs.Sheet.add.Goals.{After-first_over-bad}
+use Rattle.totals.proofs.Sheet.add.Goals.{In-Some}
 
 pub returns-then-self-ge-MOST_RECORDS : goal.returns-then-self-ge-MOST_RECORDS
-returns-then-self-ge-MOST_RECORDS c = c.unchanged.ensures ∙ full_way _ _ c.if-self-ge-MOST_RECORDS.true
+returns-then-self-ge-MOST_RECORDS c = rw (c.unchanged.ensures, c.into.ensures) (full_way _ _ c.if-self-ge-MOST_RECORDS.true)
 
-pub returns-then-bad-ne0 : goal.returns-then-bad-ne0
-returns-then-bad-ne0 c =
-    let taken : (take c.within_row-count.result c.args.row ≡ take c.args.places c.args.row) =
-    rw c.within_row-count.ensures (row_taken c.args.places c.args.row (search rules)) in
-    let e = rw taken at c.first_over-bad.ensures in
-    c.unchanged-then-bad-ne0.ensures ∙ rw e (size_way _ _ c.if-self-ge-MOST_RECORDS.false (λ z. c.if-bad-ne0.true (e ∙ z)))
+-- the place lies within the row, and so within 32
+within : (c : In-Some) → c.in-Some.place < 32
+within c =
+    let ms = take c.min.result c.args.row.now in
+    let few : length ms ≤ 32 = simp length-take (omega (arith, c.min.ensures)) in
+    let sums : length c.args.self.sums ≡ 32 = search rules in
+    let small = place_within c.args.self.sums ms (omega arith) c.in-Some.place (sym c.first_over.ensures ∙ c.in-Some.is) in
+    omega arith
+
+pub overflow_cast-place : goal.overflow_cast-place
+overflow_cast-place c = omega (arith, within c)
+
+pub overflow_add-place : goal.overflow_add-place
+overflow_add-place c = omega (arith, within c)
+
+pub returns-in-Some : goal.returns-in-Some
+returns-in-Some c =
+    let ms = take most_pictures c.args.row.now in
+    let taken : (take c.min.result c.args.row.now ≡ ms) = rw c.min.ensures (row_taken c.args.row.now) in
+    let e = place_is (bad_field (place_numbers c.args.self.sums ms)) c.in-Some.place (rw taken at (sym c.first_over.ensures ∙ c.in-Some.is)) in
+    rw c.unchanged-in-Some.ensures (rw e at (size_way c.args.self ms c.if-self-ge-MOST_RECORDS.false (λ z. omega arith)))
 
 pub with_row-self-requires : goal.with_row-self-requires
 with_row-self-requires c =
-    let l : length c.args.row ≡ 32 = search rules in
-    let m : length c.args.self.sums ≡ 32 = search rules in
-    let w = c.within_row-count.ensures in
+    let ms = take c.min.result c.args.row.now in
+    let few : length ms ≤ 32 = simp length-take (omega (arith, c.min.ensures)) in
+    let sums : length c.args.self.sums ≡ 32 = search rules in
     record {
-      few = omega (arith, w);
+      few = few;
       room = c.if-self-ge-MOST_RECORDS.false;
-      sums = sums_fit _ _ _ (omega (arith, w)) (omega (arith, w)) (sym c.first_over-bad.ensures ∙ c.if-bad-ne0.false);
+      sums = sums_fit c.args.self.sums ms (omega arith) (no_place _ (sym c.first_over.ensures ∙ c.in_default.is));
     }
 
 pub returns : goal.returns
 returns c =
-    let taken : (take c.within_row-count.result c.args.row ≡ take c.args.places c.args.row) =
-    rw c.within_row-count.ensures (row_taken c.args.places c.args.row (search rules)) in
-    let l : length c.args.row ≡ 32 = search rules in
-    let m : length c.args.self.sums ≡ 32 = search rules in
-    let w = c.within_row-count.ensures in
-    let n : length (take c.args.places c.args.row) ≡ c.within_row-count.result =
-    rw (← taken) (taken_length c.args.self.sums c.args.row _ (omega (arith, w)) (omega (arith, w))) in
-    let e = rw taken at c.first_over-bad.ensures in
-    rw (c.done.ensures, c.with_row-self.ensures, taken) (rw n at (added_way c.args.self (take c.args.places c.args.row) c.if-self-ge-MOST_RECORDS.false (sym e ∙ c.if-bad-ne0.false)))
+    let ms = take most_pictures c.args.row.now in
+    let taken : (take c.min.result c.args.row.now ≡ ms) = rw c.min.ensures (row_taken c.args.row.now) in
+    rw (c.with_row-self.ensures, taken) (added_way c.args.self ms c.if-self-ge-MOST_RECORDS.false (no_place _ (rw taken at (sym c.first_over.ensures) ∙ c.in_default.is)))

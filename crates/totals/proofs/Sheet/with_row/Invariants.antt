@@ -1,6 +1,6 @@
--- `totals::Sheet::with_row` meets its contract: after i turns each column has the first i values over it. Assumes nothing.
+-- `totals::Sheet::with_row` meets its contract: after i turns each column has the first i values over it.
+-- Assumes nothing.
 use mathlib.Core.Path.{◌≡◌}
-use Prim.Native.Nat.{◌-◌, ◌≤◌}
 use lib.Dec.{eqb}
 use lib.IntN.{◌+ℤ◌}
 use lib.ListN.{take}
@@ -8,13 +8,10 @@ use Rattle.totals.specs.Totals.{greater, lesser, over}
 use Rattle.totals.proofs.Sheet.with_row.Given as goal
 
 abbrev pub invariant-loop-i : goal.invariant-loop-i
-invariant-loop-i l =
-    (l.i ≤ l.places)
-    × (l.first ≡ eqb l.initial.self.count 0)
-    × (l.self.count ≡ l.initial.self.count)
-    × (l.self.sums ≡ over ◌+ℤ◌ l.initial.self.sums (take l.i l.row))
-    × (l.self.least ≡ over (lesser l.first) l.initial.self.least (take l.i l.row))
-    × (l.self.greatest ≡ over (greater l.first) l.initial.self.greatest (take l.i l.row))
-
-abbrev pub decreases-loop-i : goal.decreases-loop-i
-decreases-loop-i l = l.places - l.i
+invariant-loop-i l = record {
+  first : l.first ≡ eqb l.initial.self.count 0;
+  count : l.self.count ≡ l.initial.self.count;
+  sums : l.self.sums ≡ over ◌+ℤ◌ l.initial.self.sums (take l.i l.row);
+  least : l.self.least ≡ over (lesser l.first) l.initial.self.least (take l.i l.row);
+  greatest : l.self.greatest ≡ over (greater l.first) l.initial.self.greatest (take l.i l.row);
+}

@@ -1,30 +1,24 @@
--- `totals::sums::first_over` meets its contract: no place before i is refused. Assumes nothing.
-use mathlib.Core.Path.{sym, ◌∙◌}
+-- `totals::sums::first_over` meets its contract: what the chain found, place by place, is the first bad
+-- place. Assumes nothing.
+use Prim.Native.Nat.{ℕ, ◌<◌, ◌≤◌}
+use mathlib.Core.Path.{◌≡◌}
+use mathlib.Core.Bool.{true, false}
 use borrow.Author.Rules.{rules}
-use mir.Syntax.{w64}
-use mir.Val.{SFits}
-use mir.Facts.{to_z-of_z}
-use lib.IntN.{pos}
-use lib.ListN.{get_or}
-use Rattle.totals.proofs.Columns.{all_fit, fits_here, over_here}
+use lib.ListN.{length}
+use native.Mathlib.Omega.{arith}
+use Rattle.std.specs.Prelude.{Some, None}
+use Rattle.std.proofs.iter.runs.Made.{chains}
+use Rattle.totals.proofs.Columns.{first_is, fits_at}
 use Rattle.totals.proofs.sums.first_over.Goals as goal
-
-pub returns-then-not-fits : goal.returns-then-not-fits
-returns-then-not-fits c =
-    let f : SFits w64 (get_or c.args.sums c.loop-i.i (pos 0)) = search rules in
-    let g : SFits w64 (get_or c.args.row c.loop-i.i (pos 0)) = search rules in
-    over_here c.args.sums c.args.row _ (search rules) (search rules) _ c.loop-i-test.true c.loop-i.invariant.1
-    (sym (rw (to_z-of_z f, to_z-of_z g) at c.fits.ensures) ∙ c.if-not-fits.true)
-
-pub loop-i-preserved : goal.loop-i-preserved
-loop-i-preserved c =
-    let f : SFits w64 (get_or c.args.sums c.loop-i.i (pos 0)) = search rules in
-    let g : SFits w64 (get_or c.args.row c.loop-i.i (pos 0)) = search rules in (
-      search rules,
-      fits_here c.args.sums c.args.row _ (search rules) (search rules) _ c.loop-i-test.true c.loop-i.invariant.1
-          (sym (rw (to_z-of_z f, to_z-of_z g) at c.fits.ensures) ∙ c.if-not-fits.false),
-    )
 
 pub returns : goal.returns
 returns c =
-    all_fit c.args.sums c.args.row _ (search rules) (search rules) _ c.loop-i-test.false c.loop-i.invariant.1
+    let sums = c.args.sums in
+    let row = c.args.row.now in
+    let whole : length sums ≡ 32 = search rules in
+    let few : length row ≤ length sums = omega (arith, c.requires, whole) in
+    let all : (k : ℕ) → c.position.result ≡ None → k < length row → fits_at sums row k ≡ true = λ k e h. search (rules, chains) in
+    let within : (i : ℕ) → c.position.result ≡ Some i → i < length row = λ i e. search (rules, chains) in
+    let here : (i : ℕ) → c.position.result ≡ Some i → fits_at sums row i ≡ false = λ i e. search (rules, chains) in
+    let past : (i k : ℕ) → c.position.result ≡ Some i → k < i → fits_at sums row k ≡ true = λ i k e h. search (rules, chains) in
+    first_is sums row few c.position.result all (λ i e. (within i e, here i e)) past
