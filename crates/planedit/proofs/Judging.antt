@@ -1,22 +1,24 @@
--- The pass that looks for the first bad field: what is left of the walk, counted on from the present field, gives what the whole gives.
--- Assumes nothing.
+-- The pass that looks for the first bad field: what is left of the row, counted on from the present field,
+-- gives what the whole gives. Assumes nothing.
 use mathlib.Core.Path.{◌≡◌, refl, sym, ◌∙◌}
+use mathlib.Core.Bool.{true}
 use mathlib.Core.List.{List, [], ◌∷◌}
-use Prim.Native.Nat.{ℕ, zero, suc, ◌+◌, ◌*◌, ◌<◌, ◌≤◌}
-use native.Mathlib.Numerals.{add-one}
+use mathlib.Core.Logic.{◌⊎◌, ⊎_elim}
+use Prim.Native.Nat.{ℕ, zero, suc, ◌+◌, ◌≤◌}
 use native.Mathlib.Omega.{arith}
-use lib.IntN.{ℤ, pos}
-use lib.ListN.{length, get_or, drop}
-use lib.Seq.{drop-cons}
+use lib.IntN.{ℤ}
+use lib.ListN.{length}
+use Rattle.rules.specs.Form.{Form}
+use Rattle.rules.specs.Good.{good}
+use Rattle.rules.specs.Layout.{most_pictures}
 use Rattle.rules.specs.Numbers.{bad_field, first_of, later}
-use Rattle.rules.specs.PlanBytes.{forms_in}
+use Rattle.rules.specs.PlanBytes.{all_good, forms_in, is_plan}
 use Rattle.rules.specs.Answers.{edit_verdicts, field_number, verdicts_in}
-use Rattle.rules.proofs.PlanWalk.{PlanParts, field_count, form_at, forms_at, plan_parts, walk_end, walk_start, walk_step, width_at}
 use Rattle.rules.specs.Powers.{powers}
+use Rattle.rules.proofs.Logic.{both}
+use Rattle.rules.proofs.PlanWalk.{count_forms_in, field_count, plan_parts}
 use Rattle.value.specs.Settling.{own_number}
-use Rattle.plan.proofs.Parts.{Walking, walking_good, walking_start, walking_step, walking_within}
-use Rattle.planedit.specs.declared.Bad.{Bad}
-use Rattle.planedit.specs.Rows.{Matched, Within, bad, bad_of}
+use Rattle.planedit.specs.Rows.{Bad, bad, bad_of}
 use Rattle.planedit.proofs.Values.{number_is}
 
 -- the first bad field, by the number that each field gets, the fields counted on from i
@@ -56,53 +58,45 @@ bad_next : (i n : ℕ) (ns : List ℕ) → n ≡ 0 → bad_from i (n ∷ ns) ≡
 unfolding bad_from
 bad_next i n ns h = rw h
 
--- a row's value after field i
-pub row_step : (row : List ℤ) (i : ℕ) → i < length row → drop i row ≡ get_or row i (pos 0) ∷ drop (i + 1) row
-row_step row i l = rw (add-one, drop-cons row i (pos 0) l)
+-- Before field i: the forms and the values that are left, and what the whole gives.
+pub record Judged (left : List Form) (ms : List ℤ) (i : ℕ) (whole : Bad) : Type 0 where
+  pub fine : all_good left ≡ true
+  pub few : i + length left ≤ most_pictures
+  pub each : length ms ≡ length left
+  pub gives : bad_from i (edit_verdicts left ms) ≡ whole
 
--- the field's number, and those behind it
-pub verdicts_step : (b : List ℕ) (row : List ℤ) (i at : ℕ) → i < field_count b → i < length row
-    → edit_verdicts (forms_at b i at) (drop i row) ≡ field_number (form_at b i at) (get_or row i (pos 0)) ∷ edit_verdicts (forms_at b (i + 1) (at + width_at b i)) (drop (i + 1) row)
-unfolding verdicts_in
-verdicts_step b row i at l k = rw (walk_step b i at l, row_step row i k)
+pub judged_start : (b : List ℕ) (row : List ℤ) → is_plan b ≡ true → length row ≡ field_count b → Judged (forms_in b) row 0 (bad_of (edit_verdicts (forms_in b) row))
+judged_start b row h e =
+    let p = plan_parts b h in
+    record {
+      fine = p.good;
+      few = omega (arith, p.few, count_forms_in b);
+      each = e ∙ sym (count_forms_in b);
+      gives = bad_is (edit_verdicts (forms_in b) row);
+    }
 
-pub record Judged (b : List ℕ) (row : List ℤ) (i at : ℕ) : Type 0 where
-  pub walk : Walking b i at
-  pub left : bad_from i (edit_verdicts (forms_at b i at) (drop i row)) ≡ bad_from 0 (edit_verdicts (forms_in b) row)
-
-module _ (b : List ℕ) (row : List ℤ) (p : Matched b row) where
-  pub parts : PlanParts b
-  parts = plan_parts b p.plan
-
-  -- a field's header and its positions stand within the plan
-  pub field_within : (i at : ℕ) → Walking b i at → i < length row → Within b i at
-  field_within i at w l =
-      let k : i < field_count b = omega (arith, p.each) in
-      record { header = omega (arith, parts.size); part = walking_within b i at w k }
-
-  pub judged_start : (at : ℕ) → at ≡ 3 * length row + 3 → Judged b row 0 at
-  judged_start at e =
-      let q : at ≡ 3 * field_count b + 3 = omega (arith, p.each) in
-      rw q (record { walk = walking_start b parts; left = rw (walk_start b) })
-
-  module _ (i at : ℕ) (j : Judged b row i at) (l : i < length row) (z : ℤ) (v : z ≡ get_or row i (pos 0)) (n : ℕ) (e : n ≡ own_number powers (form_at b i at) z) where
-    within_count : i < field_count b
-    within_count = omega (arith, p.each)
-
-    number : n ≡ field_number (form_at b i at) (get_or row i (pos 0))
-    number = e ∙ rw v (number_is _ _ (walking_good b i at j.walk within_count))
-
-    whole : bad_from i (n ∷ edit_verdicts (forms_at b (i + 1) (at + width_at b i)) (drop (i + 1) row)) ≡ bad_from 0 (edit_verdicts (forms_in b) row)
-    whole = rw (number, ← verdicts_step b row i at within_count l) j.left
-
-    pub judged_bad : (n ≡ 0 → ⊥) → bad n (i + 1) ≡ bad_of (edit_verdicts (forms_in b) row)
-    judged_bad h = sym (bad_here i n _ h) ∙ whole ∙ bad_is (edit_verdicts (forms_in b) row)
-
-    pub judged_step : n ≡ 0 → Judged b row (i + 1) (at + width_at b i)
-    judged_step h = record { walk = walking_step b i at j.walk within_count; left = sym (bad_next i n _ h) ∙ whole }
-
-  pub judged_end : (i at : ℕ) → Judged b row i at → length row ≤ i → bad 0 0 ≡ bad_of (edit_verdicts (forms_in b) row)
+module _ (i : ℕ) (whole : Bad) where
+  -- at the end of the forms or of the row
+  pub judged_end : (left : List Form) (ms : List ℤ) → Judged left ms i whole → (left ≡ []) ⊎ (length ms ≡ 0) → bad 0 0 ≡ whole
   unfolding verdicts_in bad_from
-  judged_end i at j l =
-      let k : field_count b ≤ i = omega (arith, p.each) in
-      (rw (walk_end b i at k) at j.left) ∙ bad_is (edit_verdicts (forms_in b) row)
+  judged_end [] ms j h = j.gives
+  judged_end (φ ∷ left) [] j h = j.gives
+  judged_end (φ ∷ left) (m ∷ ms) j h = ⊎_elim (λ (e : φ ∷ left ≡ []). cc) (λ (e : suc (length ms) ≡ 0). absurd (omega arith)) h
+
+  module _ (φ : Form) (left : List Form) (m : ℤ) (ms : List ℤ) (j : Judged (φ ∷ left) (m ∷ ms) i whole) (n : ℕ) (e : n ≡ own_number powers φ m) where
+    fine_both : (good φ ≡ true) × (all_good left ≡ true)
+    unfolding all_good
+    fine_both = both (good φ) (all_good left) j.fine
+
+    number : n ≡ field_number φ m
+    number = e ∙ number_is φ m fine_both.0
+
+    all : bad_from i (n ∷ edit_verdicts left ms) ≡ whole
+    unfolding verdicts_in
+    all = rw number j.gives
+
+    pub judged_bad : (n ≡ 0 → ⊥) → bad n (i + 1) ≡ whole
+    judged_bad h = sym (bad_here i n _ h) ∙ all
+
+    pub judged_step : n ≡ 0 → Judged left ms (i + 1) whole
+    judged_step h = record { fine = fine_both.1; few = omega (arith, j.few); each = omega (arith, j.each); gives = sym (bad_next i n _ h) ∙ all }

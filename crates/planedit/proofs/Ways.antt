@@ -1,14 +1,16 @@
 -- What is answered for a row, at each way through `edit_row`, and for any bytes. Assumes nothing.
 use mathlib.Core.Path.{◌≡◌, refl, sym, ◌∙◌}
-use mathlib.Core.Bool.{Bool, true, false, not, true≢false}
+use mathlib.Core.Bool.{true, false, true≢false}
 use mathlib.Core.List.{List, [], ◌∷◌, ◌++◌}
-use borrow.Author.Tests.{eq-eqb, ne_eqb, lt-ltb, le-ltb, not-true, not-false}
-use Prim.Native.Nat.{ℕ, ◌+◌, ◌-◌, ◌*◌, ◌<◌, ◌≤◌}
-use native.Mathlib.Omega.{arith}
+use borrow.Author.Tests.{eq-eqb, ne_eqb, lt-ltb, le-ltb}
+use Prim.Native.Nat.{ℕ, ◌<◌, ◌≤◌}
 use lib.Dec.{ltb}
 use lib.IntN.{ℤ, pos}
 use lib.ListN.{length, drop}
+use Rattle.std.specs.Prelude.{Err, Ok, Result, ⊤}
 use Rattle.rules.specs.declared.Answer.{Answer}
+use Rattle.rules.specs.declared.Refused.{Refused}
+use Rattle.rules.specs.Refusals.{refusal_number}
 use Rattle.rules.specs.Numbers.{ROOM, bad_field, first_of, when}
 use Rattle.rules.specs.Form.{Form}
 use Rattle.rules.specs.Layout.{record_length}
@@ -16,9 +18,9 @@ use Rattle.rules.specs.PlanBytes.{forms_in, is_plan}
 use Rattle.rules.specs.Answers.{PlanEditIs, RowIs, answer, answer_over, edit_verdicts, number_over, record_of, row_answer, row_number}
 use Rattle.rules.proofs.Firsts.{first_here, first_next, lent_kept, no_bad, refuses}
 use Rattle.rules.proofs.Outcomes.{by_plan_lem}
-use Rattle.rules.proofs.PlanWalk.{count_forms_in, field_count, plan_parts}
-use Rattle.planedit.specs.declared.Bad.{Bad}
-use Rattle.planedit.specs.Rows.{Ready, bad_of}
+use Rattle.rules.proofs.PlanWalk.{count_forms_in, field_count}
+use Rattle.planedit.specs.Rows.{Bad, Ready, bad, bad_in, bad_of}
+use Rattle.rules.proofs.Refusing.{refusal_some}
 
 abbrev refusal : ℕ → ℕ → Answer
 refusal number field = record { number = number; field = field; length = 0; value = pos 0 }
@@ -73,37 +75,40 @@ module _ (φs : List Form) (row : List ℤ) (out : List ℕ) where
           let x : row_number φs row (length out) ≡ 0 = behind ∙ rw (le-ltb (length out) (record_length φs) l) in
           record { gives = rw (row_answer_lem, x); leaves = rw x a }
 
--- By the bytes of a plan: its field count is the first byte, and behind its headers and counts stand as many bytes as the record has.
-module _ (b : List ℕ) (h : is_plan b ≡ true) (row : List ℤ) (out : List ℕ) where
-  record_is : length b - (3 * field_count b + 3) ≡ record_length (forms_in b)
-  record_is = omega (arith, (plan_parts b h).size)
-
+-- By the bytes of a plan.
+module _ (b : List ℕ) (row : List ℤ) (out : List ℕ) where
   pub row_other : (length row ≡ field_count b → ⊥) → RowIs (forms_in b) row out (refusal 9 0) out
   row_other n = other_length (forms_in b) row out (λ q. n (q ∙ count_forms_in b))
 
-  module _ (e : length row ≡ field_count b) (d : Bad) (q : d ≡ bad_of (edit_verdicts (forms_in b) row)) where
+  module _ (e : length row ≡ field_count b) where
     each : length row ≡ length (forms_in b)
     each = e ∙ sym (count_forms_in b)
 
-    pub row_bad : (d.number ≡ 0 → ⊥) → RowIs (forms_in b) row out (refusal d.number d.field) out
-    row_bad n = bad_value (forms_in b) row out each d q n
+    pub row_bad : (r : Result ⊤ Refused) (x : Refused) → bad_in r ≡ bad_of (edit_verdicts (forms_in b) row) → r ≡ Err x
+        → RowIs (forms_in b) row out (refusal (refusal_number x.refusal) x.field) out
+    row_bad r x q h =
+        bad_value (forms_in b) row out each (bad (refusal_number x.refusal) x.field) (rw h at q) (refusal_some x.refusal)
 
-    module _ (z : d.number ≡ 0) where
-      pub row_room : length out < length b - (3 * field_count b + 3) → RowIs (forms_in b) row out (refusal 7 0) out
-      row_room l = no_room (forms_in b) row out each d q z (rw record_is at l)
+    -- every value is taken
+    module _ (r : Result ⊤ Refused) (q : bad_in r ≡ bad_of (edit_verdicts (forms_in b) row)) (h : r ≡ Ok tt) where
+      none : bad 0 0 ≡ bad_of (edit_verdicts (forms_in b) row)
+      none = rw h at q
 
-      module _ (l : length b - (3 * field_count b + 3) ≤ length out) where
+      pub row_room : length out < record_length (forms_in b) → RowIs (forms_in b) row out (refusal 7 0) out
+      row_room l = no_room (forms_in b) row out each (bad 0 0) none refl l
+
+      module _ (l : record_length (forms_in b) ≤ length out) where
         pub row_ready : Ready b row out
-        row_ready = record { matched = record { plan = h; each = e }; takes = sym (number (forms_in b) row out each d q) ∙ z; room = rw record_is at l }
+        row_ready = record { each = e; takes = sym (number (forms_in b) row out each (bad 0 0) none); room = l }
 
         pub row_done : (after : List ℕ) → after ≡ record_of (forms_in b) row ++ drop (length (record_of (forms_in b) row)) out
-            → RowIs (forms_in b) row out (record { number = 0; field = 0; length = length b - (3 * field_count b + 3); value = pos 0 }) after
-        row_done after a = rw record_is (done (forms_in b) row out each d q z (rw record_is at l) after a)
+            → RowIs (forms_in b) row out (record { number = 0; field = 0; length = record_length (forms_in b); value = pos 0 }) after
+        row_done after a = done (forms_in b) row out each (bad 0 0) none refl l after a
 
--- By any bytes, once the plan's test has answered p.
-module _ (b : List ℕ) (row : List ℤ) (out : List ℕ) (p : Bool) (e : p ≡ is_plan b) where
-  pub no_plan_edit : not p ≡ true → PlanEditIs b row out (refusal 12 0) out
-  no_plan_edit h = by_plan_lem b _ _ (λ f. (refl, refl)) (λ t. absurd (true≢false (sym t ∙ sym e ∙ not-true p h)))
+-- By any bytes.
+module _ (b : List ℕ) (row : List ℤ) (out : List ℕ) (r : Answer) (after : List ℕ) where
+  pub no_plan_edit : is_plan b ≡ false → r ≡ refusal 12 0 → after ≡ out → PlanEditIs b row out r after
+  no_plan_edit n e k = by_plan_lem b _ (λ φs. RowIs φs row out r after) (λ _. (e, k)) (λ h. absurd (true≢false (sym h ∙ n)))
 
-  pub plan_edit : not p ≡ false → (r : Answer) (after : List ℕ) → RowIs (forms_in b) row out r after → PlanEditIs b row out r after
-  plan_edit h r after w = by_plan_lem b _ _ (λ f. absurd (true≢false (sym (not-false p h) ∙ e ∙ f))) (λ t. w)
+  pub plan_edit : is_plan b ≡ true → RowIs (forms_in b) row out r after → PlanEditIs b row out r after
+  plan_edit h w = by_plan_lem b _ (λ φs. RowIs φs row out r after) (λ n. absurd (true≢false (sym h ∙ n))) (λ _. w)

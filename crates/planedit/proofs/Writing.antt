@@ -1,95 +1,82 @@
--- The pass that writes: what is left of the record, written behind what has been written, gives the whole record. Assumes nothing.
+-- The pass that writes: what is left of the record, written behind what has been written, gives the whole
+-- record. Assumes nothing.
 use mathlib.Core.Path.{◌≡◌, refl, sym, ◌∙◌}
 use mathlib.Core.List.{List, [], ◌∷◌, ◌++◌}
-use Prim.Native.Nat.{ℕ, ◌+◌, ◌*◌, ◌<◌, ◌≤◌}
+use mathlib.Core.Logic.{◌⊎◌, ⊎_elim}
+use Prim.Native.Nat.{ℕ, suc, ◌+◌, ◌≤◌}
 use native.Mathlib.Omega.{arith}
-use lib.IntN.{ℤ, pos}
-use lib.ListN.{length, get_or, drop, length-append}
+use lib.IntN.{ℤ, nat_abs}
+use lib.ListN.{length, drop, length-append}
 use lib.Seq.{length-sets, sets}
-use Rattle.rules.specs.Form.{Form}
+use Rattle.rules.specs.Form.{Form, size}
 use Rattle.rules.specs.Numbers.{first_of}
 use Rattle.rules.specs.Layout.{record_length}
 use Rattle.rules.specs.PlanBytes.{forms_in}
-use Rattle.rules.specs.Answers.{edit_verdicts, field_number, field_of, record_in, record_of}
+use Rattle.rules.specs.Edit.{is_negative}
+use Rattle.rules.specs.Answers.{edit_verdicts, field_number, field_of, record_in, record_of, verdicts_in}
 use Rattle.rules.proofs.Firsts.{first_zero}
 use Rattle.rules.proofs.Lists.{sets_append, sets_front}
-use Rattle.rules.proofs.PlanWalk.{PlanParts, count_forms_in, field_count, form_at, forms_at, walk_end, walk_start, walk_step, width_at}
-use Rattle.plan.proofs.Parts.{Walking, walking_length, walking_start, walking_step, walking_within}
-use Rattle.planedit.specs.Rows.{Fine, Ready}
-use Rattle.planedit.proofs.Values.{edited_size}
-use Rattle.planedit.proofs.Judging.{field_within, parts, row_step, verdicts_step}
+use Rattle.rules.proofs.PlanWalk.{count_forms_in}
+use Rattle.copying.specs.Copy.{copied}
+use Rattle.roles.specs.Table.{characters}
+use Rattle.field.specs.Results.{field_by}
+use Rattle.planedit.specs.Rows.{Ready}
+use Rattle.planedit.proofs.Values.{edited_size, put_is}
 
--- the field, and those behind it
-record_step : (b : List ℕ) (row : List ℤ) (i at : ℕ) → i < field_count b → i < length row
-    → record_of (forms_at b i at) (drop i row)
-    ≡ field_of (form_at b i at) (get_or row i (pos 0)) ++ record_of (forms_at b (i + 1) (at + width_at b i)) (drop (i + 1) row)
-unfolding record_in
-record_step b row i at l k = rw (walk_step b i at l, row_step row i k)
-
-pub record_length_lem : (φs : List Form) (row : List ℤ) → length row ≡ length φs → length (record_of φs row) ≡ record_length φs
+record_length_lem : (φs : List Form) (row : List ℤ) → length row ≡ length φs → length (record_of φs row) ≡ record_length φs
 unfolding record_in record_length
 record_length_lem [] row e = refl
 record_length_lem (φ ∷ φs) [] e = absurd (omega arith)
 record_length_lem (φ ∷ φs) (m ∷ ms) e = simp length-append (omega (arith, edited_size φ m, record_length_lem φs ms (omega arith)))
 
--- after i fields the next goes to `from`, and its positions start as far behind `start`
-pub record Written (b : List ℕ) (row : List ℤ) (lent : List ℕ) (start i from : ℕ) (out : List ℕ) : Type 0 where
-  pub walk : Walking b i (start + from)
-  pub takes : first_of (edit_verdicts (forms_at b i (start + from)) (drop i row)) ≡ 0
-  pub left : sets out from (record_of (forms_at b i (start + from)) (drop i row)) ≡ sets lent 0 (record_of (forms_in b) row)
-  pub kept : length out ≡ length lent
+-- The forms and the values that are left, from which byte on their fields go, and what the whole gives.
+pub record Written (left : List Form) (ms : List ℤ) (from : ℕ) (out whole : List ℕ) : Type 0 where
+  pub takes : first_of (edit_verdicts left ms) ≡ 0
+  pub each : length ms ≡ length left
+  pub room : from + record_length left ≤ length out
+  pub gives : sets out from (record_of left ms) ≡ whole
 
-module _ (b : List ℕ) (row : List ℤ) (lent : List ℕ) (p : Ready b row lent) (start : ℕ) (s : start ≡ 3 * length row + 3) where
-  plan : PlanParts b
-  plan = parts b row p.matched
+-- the record, and behind it what stood there
+abbrev pub Whole : List ℕ → List ℤ → List ℕ → List ℕ
+Whole b row lent = record_of (forms_in b) row ++ drop (length (record_of (forms_in b) row)) lent
 
-  pub written_start : Written b row lent start 0 0 lent
-  written_start =
-      let q : start + 0 ≡ 3 * field_count b + 3 = omega (arith, p.matched.each) in
-      record {
-        walk = rw q (walking_start b plan);
-        takes = rw (q, ← walk_start b) p.takes;
-        left = rw (q, ← walk_start b);
-        kept = refl;
-      }
+pub written_start : (b : List ℕ) (row : List ℤ) (lent : List ℕ) → Ready b row lent → Written (forms_in b) row 0 lent (Whole b row lent)
+written_start b row lent p =
+    let each : length row ≡ length (forms_in b) = p.each ∙ sym (count_forms_in b) in
+    record {
+      takes = p.takes;
+      each = each;
+      room = omega (arith, p.room);
+      gives = sets_front (record_of (forms_in b) row) lent (omega (arith, p.room, record_length_lem (forms_in b) row each));
+    }
 
-  module _ (i from : ℕ) (out : List ℕ) (w : Written b row lent start i from out) (l : i < length row) (z : ℤ) (v : z ≡ get_or row i (pos 0)) where
-    abbrev φ : Form
-    φ = form_at b i (start + from)
+module _ (from : ℕ) (out whole : List ℕ) where
+  -- at the end of the forms or of the row
+  pub written_end : (left : List Form) (ms : List ℤ) → Written left ms from out whole → (left ≡ []) ⊎ (length ms ≡ 0) → out ≡ whole
+  unfolding record_in
+  written_end [] ms w h = w.gives
+  written_end (φ ∷ left) [] w h = w.gives
+  written_end (φ ∷ left) (m ∷ ms) w h = ⊎_elim (λ (e : φ ∷ left ≡ []). cc) (λ (e : suc (length ms) ≡ 0). absurd (omega arith)) h
 
-    abbrev m : ℤ
-    m = get_or row i (pos 0)
-
-    within : i < field_count b
-    within = omega (arith, p.matched.each)
-
-    numbers : (field_number φ m ≡ 0) × (first_of (edit_verdicts (forms_at b (i + 1) (start + from + width_at b i)) (drop (i + 1) row)) ≡ 0)
-    numbers = first_zero _ _ (rw (verdicts_step b row i (start + from) within l) at w.takes)
-
-    pub written_fine : Fine b i (start + from) z
-    written_fine = rw v (record { within = field_within b row p.matched i (start + from) w.walk l; takes = numbers.0 })
+  module _ (φ : Form) (left : List Form) (m : ℤ) (ms : List ℤ) (w : Written (φ ∷ left) (m ∷ ms) from out whole) where
+    numbers : (field_number φ m ≡ 0) × (first_of (edit_verdicts left ms) ≡ 0)
+    unfolding verdicts_in
+    numbers = first_zero _ _ w.takes
 
     -- the field stands within the record
-    pub written_within : from + width_at b i ≤ length out
-    written_within = omega (arith, walking_within b i (start + from) w.walk within, plan.size, p.room, p.matched.each, w.kept)
+    pub written_within : from + size φ ≤ length out
+    unfolding record_length
+    written_within = omega (arith, w.room)
 
-    pub written_step : (after : List ℕ) → after ≡ sets out from (field_of φ z) → Written b row lent start (i + 1) (from + width_at b i) after
+    pub written_step : (after : List ℕ) → after ≡ copied (field_by characters φ (is_negative m) (nat_abs m)) from out → Written left ms (from + size φ) after whole
+    unfolding record_in record_length
     written_step after a =
-        let c : start + (from + width_at b i) ≡ start + from + width_at b i = omega arith in
-        let n : from + width_at b i ≡ from + length (field_of φ m) = rw (edited_size φ m, walking_length b i (start + from) w.walk within) in
-        let x : after ≡ sets out from (field_of φ m) = rw v at a in
-        let rest = record_of (forms_at b (i + 1) (start + from + width_at b i)) (drop (i + 1) row) in
+        let x = put_is φ m numbers.0 from out after written_within a in
+        let k : length after ≡ length out = rw x (length-sets out from (field_of φ m)) in
+        let n : from + size φ ≡ from + length (field_of φ m) = rw (edited_size φ m) in
         record {
-          walk = rw c (walking_step b i (start + from) w.walk within);
-          takes = rw c numbers.1;
-          left = rw (c, x, n) (sym (sets_append (field_of φ m) rest out from) ∙ rw (← record_step b row i (start + from) within l) w.left);
-          kept = rw x (length-sets out from (field_of φ m) ∙ w.kept);
+          takes = numbers.1;
+          each = omega (arith, w.each);
+          room = omega (arith, w.room, k);
+          gives = rw (x, n) (sym (sets_append (field_of φ m) (record_of left ms) out from) ∙ w.gives);
         }
-
-  pub written_end : (i from : ℕ) (out : List ℕ) → Written b row lent start i from out → length row ≤ i
-      → out ≡ record_of (forms_in b) row ++ drop (length (record_of (forms_in b) row)) lent
-  unfolding record_in
-  written_end i from out w l =
-      let k : field_count b ≤ i = omega (arith, p.matched.each) in
-      let n : length (record_of (forms_in b) row) ≤ length lent = omega (arith, p.room, record_length_lem (forms_in b) row (p.matched.each ∙ sym (count_forms_in b))) in
-      rw (walk_end b i (start + from) k) at w.left ∙ sets_front (record_of (forms_in b) row) lent n

@@ -1,47 +1,34 @@
--- `planedit::put_record` meets its contract: each turn of its loop is a law of Writing. Assumes nothing.
-use mathlib.Core.Path.{refl}
+-- `planedit::put_record` meets its contract: each turn and the end are laws of Writing. Assumes nothing.
+use mathlib.Core.Path.{◌≡◌}
+use mathlib.Core.Logic.{inl, inr, ⊎_elim}
 use borrow.Author.Rules.{rules}
-use Prim.Native.Nat.{◌+◌, ◌*◌}
-use native.Mathlib.Omega.{arith}
-use Rattle.planedit.proofs.Values.{Handed, handed}
-use Rattle.planedit.proofs.Writing.{written_end, written_fine, written_start, written_step, written_within}
+use mir.Syntax.{w64}
+use mir.Val.{SFits}
+use mir.Facts.{to_z-of_z}
+use Rattle.rules.specs.PlanBytes.{forms_in}
+use Rattle.plan.specs.Walk.{forms_left}
+use Rattle.planedit.proofs.Writing.{written_end, written_start, written_step}
 use Rattle.planedit.proofs.put_record.Goals as goal
-use Rattle.planedit.proofs.put_record.Goals.{After-put_at-arg-1}
 
-pub loop-i-init : goal.loop-i-init
-loop-i-init c = (search rules, refl, written_start _ _ _ c.requires _ refl)
+pub loop-form-init : goal.loop-form-init
+loop-form-init c =
+    let e = c.into_iter-form-iterator.ensures.into_iter_gives in
+    let all : forms_left c.into_iter-form-iterator.result.a ≡ forms_in c.args.plan.bytes.now = rw (e, c.zip-form-items.ensures.first) c.forms.ensures in
+    let values : c.into_iter-form-iterator.result.b.rest.now ≡ c.args.row.now = rw e c.zip-form-items.ensures.second.0 in
+    record { can = (tt, tt); finite = tt; written = rw (all, values) (written_start _ _ _ c.requires) }
 
-pub put_at-requires : goal.put_at-requires
-put_at-requires c =
-    let value : (Handed c.args.row.now c.loop-i.i) =
-    handed c.args.row.now c.loop-i.i c.put_at-arg-1.given in (
-      c.character_table-table.ensures,
-      written_fine _ _ _ c.requires _ refl _ _ _ c.loop-i.invariant.2 (search rules) _ value,
-      written_within _ _ _ c.requires _ refl _ _ _ c.loop-i.invariant.2 (search rules) _ value,
-    )
-
-pub bounds-plan-i : goal.bounds-plan-i
-bounds-plan-i c =
-    let value : (Handed c.args.row.now c.loop-i.i) =
-    handed c.args.row.now c.loop-i.i c.put_at-arg-1.given in
-    let w = (written_fine _ _ _ c.requires _ refl _ _ _ c.loop-i.invariant.2 (search rules) _ value).within in
-    omega arith
-
-pub overflow_cast-from : goal.overflow_cast-from
-overflow_cast-from c = omega (arith, c.type_inv.plan (1 + 3 * c.loop-i.i))
-
-pub overflow_add-from-in-loop-i : goal.overflow_add-from-in-loop-i
-overflow_add-from-in-loop-i c =
-    let value : (Handed c.args.row.now c.loop-i.i) =
-    handed c.args.row.now c.loop-i.i c.put_at-arg-1.given in
-    let n = written_within _ _ _ c.requires _ refl _ _ _ c.loop-i.invariant.2 (search rules) _ value in
-    omega arith
-
-pub loop-i-preserved : goal.loop-i-preserved
-loop-i-preserved c =
-    let value : (Handed c.args.row.now c.loop-i.i) =
-    handed c.args.row.now c.loop-i.i c.put_at-arg-1.given in
-    (search rules, refl, written_step _ _ _ c.requires _ refl _ _ _ c.loop-i.invariant.2 (search rules) _ value _ c.put_at.ensures)
+pub loop-form-preserved : goal.loop-form-preserved
+loop-form-preserved c =
+    let s = c.in-Some.ensures.steps in
+    let f : SFits w64 c.in-Some.m.now = search rules in
+    let here = rw (s.0, s.1) at c.loop-form.invariant.written in
+    record {
+      can = (tt, tt);
+      finite = tt;
+      written = written_step _ _ _ _ _ _ _ here _ (rw (c.character_table-table.ensures, c.from.ensures, to_z-of_z f) at c.put.ensures.memory);
+    }
 
 pub returns : goal.returns
-returns c = written_end _ _ _ c.requires _ refl _ _ _ c.loop-i.invariant.2 (search rules)
+returns c =
+    let w = c.loop-form.invariant.written in
+    ⊎_elim (λ a. written_end _ _ _ _ _ w (inl a.1.0)) (λ b. written_end _ _ _ _ _ w (inr b.1.0)) c.in-None.ensures.steps
