@@ -1,47 +1,31 @@
--- A totals sheet in a run: a column read from it and put into it, the parts of a sheet put one behind the other, and a sheet's bytes read back. Where
--- all that stands before a part has been put, the part goes right behind it, so that four parts are the sheet's bytes. Assumes nothing.
-use Prim.Native.Nat.{ℕ, ◌+◌, ◌-◌, ◌^◌, ◌<◌, ◌≤◌, zero-le}
+-- A totals sheet in a run: a column read from it and put into it, the parts of a sheet put one behind the
+-- other, and a sheet's bytes read back. Where all that stands before a part has been put, the part goes right
+-- behind it, so that four parts are the sheet's bytes. Assumes nothing.
+use Prim.Native.Nat.{ℕ, ◌+◌, ◌-◌, ◌^◌, ◌<◌, ◌≤◌}
 use mathlib.Core.Path.{◌≡◌, refl, sym, ap, ◌∙◌}
-use mathlib.Core.Bool.{true, false, false≢true}
 use mathlib.Core.List.{List, [], ◌++◌, append_assoc, append-nil}
 use native.Mathlib.Omega.{arith}
-use borrow.Author.Tests.{le-leb, le-ltb}
+use borrow.Author.Tests.{le-leb}
 use borrow.Rule.Slice.PartMut.{put_mid}
-use lib.Dec.{T}
-use lib.IntN.{ℤ, pos, negsuc, nat_abs}
+use lib.IntN.{ℤ, pos}
 use lib.ListN.{length, get_or, take, drop, length-append, length-drop, drop_of_length-le, replicate}
 use lib.Seq.{take_all, take_at, drop_at, drop-drop}
-use lib.Signed.{lt_z, non_neg}
 use mir.Syntax.{w64}
-use mir.Val.{SFits, Fits}
+use mir.Val.{SFits}
 use Rattle.rules.specs.Layout.{most_pictures}
 use Rattle.rules.specs.Collector.{bytes_of, int_in, int_of, le_value, row_bytes, row_in}
 use Rattle.totals.specs.declared.Sheet.{Sheet}
-use Rattle.totals.specs.Totals.{empty_sheet, most_records}
+use Rattle.totals.specs.Totals.{empty_sheet}
 use Rattle.wire.specs.Run.{get_row, put_at, put_row}
 use Rattle.wire.proofs.Bytes.{eight_bytes}
 use Rattle.wire.proofs.Rows.{row_back, row_length_lem}
 use Rattle.wire.proofs.Run.{int_bytes, put_in}
-use Rattle.collector.specs.TotalRuns.{counted, sheet_bytes, sheet_in, sheet_size}
+use Rattle.collector.specs.TotalRuns.{sheet_bytes, sheet_in, sheet_size}
 
 -- A run of zeros is an empty sheet.
 pub zeros_empty : sheet_in (replicate sheet_size 0) ≡ empty_sheet
 unfolding sheet_in int_in int_of le_value row_in
 zeros_empty = refl
-
--- The count.
-
-pub count_below : (z : ℤ) → lt_z z (pos 0) ≡ true → most_records ≡ counted z
-count_below (pos n) t = absurd (false≢true (sym (le-ltb n 0 zero-le) ∙ t))
-count_below (negsuc n) t = refl
-
-pub count_from : (z : ℤ) → lt_z z (pos 0) ≡ false → nat_abs z ≡ counted z
-count_from (pos n) t = refl
-count_from (negsuc n) t = absurd (false≢true (sym t))
-
-pub count_fits_lem : (z : ℤ) → SFits w64 z → lt_z z (pos 0) ≡ false → T (non_neg z) × Fits w64 (nat_abs z)
-count_fits_lem (pos n) f t = (tt, record { fits = omega (arith, f.sfits) })
-count_fits_lem (negsuc n) f t = absurd (false≢true (sym t))
 
 -- A column: the part of the run from byte `at` on.
 module _ (run : List ℕ) (at : ℕ) (h : at + 256 ≤ length run) where

@@ -1,17 +1,15 @@
 -- The lengths that the calls on one picture answer are small. Assumes nothing.
 use Prim.Native.Nat.{ℕ, zero, suc, ◌≤◌}
 use mathlib.Core.Path.{◌≡◌, refl}
-use mathlib.Core.List.{List, [], ◌∷◌}
+use mathlib.Core.List.{List}
 use native.Mathlib.Omega.{arith}
-use lib.Dec.{eqb}
 use lib.IntN.{ℤ, pos}
 use lib.ListN.{length}
 use Rattle.rules.specs.declared.Answer.{Answer}
 use Rattle.rules.specs.declared.Rounding.{Rounding}
-use Rattle.rules.specs.Numbers.{LENGTH, unless, first_of}
 use Rattle.rules.specs.Form.{size, meaning}
 use Rattle.rules.specs.Shape.{verdict}
-use Rattle.rules.specs.Answers.{answer, check_answer, edit_number, edit_answer, unread, said, read_answer, ReadIs}
+use Rattle.rules.specs.Answers.{answer, check_answer, edit_number, edit_answer}
 use Rattle.rules.proofs.Firsts.{first_zero}
 use Rattle.rules.proofs.Forms.{accepted_good, good_parts}
 
@@ -30,10 +28,3 @@ check_length t r e = rw e (success (verdict t) 0 (size (meaning t)) (pos 0) 6553
 pub edit_length : (w : Rounding) (t : List ℕ) (m : ℤ) (q : ℕ) (out : List ℕ) (r : Answer) → r ≡ edit_answer w t m q out → r.length ≤ 65536
 unfolding edit_answer edit_number
 edit_length w t m q out r e = rw e (success (edit_number w t m q (length out)) 0 (size (meaning t)) (pos 0) 65536 (λ z. omega (arith, accepted_size t (first_zero _ _ z).0)))
-
-pub read_length : (t f : List ℕ) (r : Answer) → ReadIs t f r → r.length ≤ 65536
-unfolding read_answer
-read_length t f r e =
-    let o = e.says in
-    let l : 1 ≤ 65536 = omega arith in
-    rw e.gives (success (first_of (verdict t ∷ unless (eqb (length f) (size (meaning t))) LENGTH ∷ unread o ∷ [])) 0 1 (said o) 65536 (λ z. l))

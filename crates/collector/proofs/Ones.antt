@@ -1,5 +1,6 @@
--- What the calls with runs are asked determines the answer and the run: two outcomes that meet a contract are equal. By the exactness of reading and
--- a plan's having one list of forms, as for the calls below. Assumes nothing.
+-- What the calls with runs are asked determines the answer and the run: two outcomes that meet a contract are
+-- equal. By the exactness of reading and a plan's having one list of forms, as for the calls below. Assumes
+-- nothing.
 use Prim.Native.Nat.{ℕ, zero, suc}
 use mathlib.Core.Path.{◌≡◌, refl, sym, ap, ◌∙◌}
 use mathlib.Core.Bool.{true}
@@ -16,7 +17,7 @@ use Rattle.rules.specs.Collector.{packed, row_bytes, bytes_of, read_run_number, 
 use Rattle.rules.proofs.Exact.{reads_one}
 use Rattle.rules.proofs.Forms.{accepted_good, good_parts}
 use Rattle.rules.proofs.Outcomes.{one_outcome, record_reads_one, same_pair}
-use Rattle.totals.specs.declared.Added.{Added}
+use Rattle.totals.specs.Totals.{Added}
 use Rattle.totals.proofs.Past.{batch_added_one}
 use Rattle.collector.specs.PlanRuns.{places_in, RecordRunIs, PlanReadRunIs, PlanEditRunIs}
 use Rattle.collector.specs.TotalRuns.{PlaceRunIs, TotalsAddRunIs, sheet_fits, sheet_in, written_at}

@@ -1,4 +1,5 @@
--- The calls on plans with rows as runs: a row of 32 numbers holds what any run would, since no layout has more fields. Assumes nothing.
+-- The calls on plans with rows as runs: a row of 32 numbers holds what any run would, since no layout has
+-- more fields. Assumes nothing.
 use Prim.Native.Nat.{ℕ, zero, suc, ◌*◌, ◌/◌, ◌%◌, ◌≤◌, min}
 use mathlib.Core.Path.{◌≡◌, refl, sym, ap, ◌∙◌}
 use mathlib.Core.Bool.{Bool, true, false, cond}
@@ -10,7 +11,10 @@ use lib.Dec.{ltb, eqb}
 use lib.IntN.{ℤ, pos}
 use lib.ListN.{length, take, drop, length-map}
 use lib.Seq.{take-append_seam}
+use Rattle.std.specs.Prelude.{Result, Ok, Err}
 use Rattle.rules.specs.declared.Answer.{Answer}
+use Rattle.rules.specs.declared.Refused.{Refused}
+use Rattle.rules.specs.Refusals.{fields_answer}
 use Rattle.rules.specs.Numbers.{ROOM, LENGTH, COUNT, when, unless, first_of, bad_field}
 use Rattle.rules.specs.Form.{Form}
 use Rattle.rules.specs.Layout.{count_fits, verdicts, accepted, forms, record_length, plan_of, HasPlan}
@@ -20,6 +24,7 @@ use Rattle.rules.proofs.Logic.{by_test}
 use Rattle.rules.proofs.Firsts.{lent_kept, first_zero}
 use Rattle.rules.proofs.Outcomes.{reads_count}
 use Rattle.rules.proofs.Plans.{forms_count, forms_good, record_le, plan_length}
+use Rattle.rules.proofs.Refusing.{refusal_some}
 use Rattle.wire.specs.Run.{put_row, get_row}
 use Rattle.wire.proofs.Rows.{row_length_lem, row_in_length}
 use Rattle.collector.specs.PlanRuns.{places_in, RecordRunIs, PlanReadRunIs, row_count, RowRunIs, PlanEditRunIs}
@@ -104,21 +109,34 @@ module _ (b rec run : List ℕ) (row : List ℤ) (size : length row ≡ min (pla
   few : (l : List ℕ) → HasPlan l b → length (forms l) ≤ 32
   few l p = (forms_count l p.layout).1
 
-  pub plan_refused : PlanReadIs b rec row a after → (a.number ≡ 0 → ⊥) → (r : ℕ) → r ≡ packed a → PlanReadRunIs b rec run r run
+  plan_refused : PlanReadIs b rec row a after → (a.number ≡ 0 → ⊥) → (r : ℕ) → r ≡ packed a → PlanReadRunIs b rec run r run
   plan_refused (as_no_plan n p) z r e = as_no_plan n (e ∙ ap packed p.0, refl)
   plan_refused (as_layout l p h) z r e = as_layout l p (rw e (run_refused (forms l) rec run (few l p) row size a after h z))
 
-  pub plan_done : PlanReadIs b rec row a after → a.number ≡ 0 → (r : ℕ) → r ≡ packed a → (left : List ℕ) (c : ℕ) → c ≡ a.length → left ≡ put_row run (take c after) → PlanReadRunIs b rec run r left
+  plan_done : PlanReadIs b rec row a after → a.number ≡ 0 → (r : ℕ) → r ≡ packed a → (left : List ℕ) (c : ℕ) → c ≡ a.length → left ≡ put_row run (take c after) → PlanReadRunIs b rec run r left
   plan_done (as_no_plan n p) z r e left c s q = let x : ◌≡◌ {A = ℕ} 12 0 = sym (ap (λ (y : Answer). y.number) p.0) ∙ z in absurd (omega arith)
   plan_done (as_layout l p h) z r e left c s q =
       as_layout l p (rw e (run_done (forms l) rec run (few l p) row size a after h z left
       (q ∙ ap (λ (n : ℕ). put_row run (take n after)) (s ∙ length_is (forms l) rec run (few l p) row size a after h z) ∙ ap (put_row run) (values_are (forms l) rec run (few l p) row size a after h z))))
 
   -- the fields read fit the row of 32
-  pub done_length : PlanReadIs b rec row a after → a.number ≡ 0 → a.length ≤ length row
+  done_length : PlanReadIs b rec row a after → a.number ≡ 0 → a.length ≤ length row
   done_length (as_no_plan n p) z = let x : ◌≡◌ {A = ℕ} 12 0 = sym (ap (λ (y : Answer). y.number) p.0) ∙ z in absurd (omega arith)
   done_length (as_layout l p h) z =
       omega (arith, few l p, length_is (forms l) rec run (few l p) row size a after h z, room_is (forms l) rec run (few l p) row size a after h z)
+
+-- By what the reading came to: the values of a success go into the run, and a refusal leaves it.
+abbrev pub left_by : Result ℕ Refused → List ℤ → List ℕ → List ℕ
+left_by (Ok c) row run = put_row run (take c row)
+left_by (Err e) row run = run
+
+module _ (b rec run : List ℕ) (row : List ℤ) (size : length row ≡ min (places_in run) 32) (after : List ℤ) where
+  pub plan_run : (o : Result ℕ Refused) → PlanReadIs b rec row (fields_answer o) after → (r : ℕ) → r ≡ packed (fields_answer o) → (left : List ℕ) → left ≡ left_by o after run → PlanReadRunIs b rec run r left
+  plan_run (Ok c) h r e left q = plan_done b rec run row size (fields_answer (Ok c)) after h refl r e left c refl q
+  plan_run (Err x) h r e left q = rw q (plan_refused b rec run row size (fields_answer (Err x)) after h (refusal_some x.refusal) r e)
+
+  pub plan_fits : (c : ℕ) → PlanReadIs b rec row (fields_answer (Ok c)) after → c ≤ length row
+  plan_fits c h = done_length b rec run row size (fields_answer (Ok c)) after h refl
 
 -- Editing.
 
@@ -134,12 +152,6 @@ unfolding row_count
 row_count_not n c l h = by_test (eqb (n % 8) 0)
     (λ e. let m = eqb-true (n % 8) 0 e in by_test (ltb 32 (n / 8)) (λ x. rw (e, x) (λ q. omega arith)) (λ x. rw (e, x) (λ q. h (omega arith))))
     (λ e. rw e (λ q. omega arith))
-
-pub row_count_few : (n : ℕ) → row_count n ≤ 32
-unfolding row_count
-row_count_few n = by_test (eqb (n % 8) 0)
-    (λ e. by_test (ltb 32 (n / 8)) (λ x. rw (e, x) (omega arith)) (λ x. let l = ltb-false 32 (n / 8) x in rw (e, x) l))
-    (λ e. rw e (omega arith))
 
 row_count_whole : (n : ℕ) → 8 * row_count n ≤ n
 unfolding row_count

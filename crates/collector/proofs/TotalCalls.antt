@@ -1,15 +1,22 @@
--- Adding a record to a sheet in a run, at each way through the call. Only a record that was added has a length, for a plan has a field at least: so
--- the length alone tells whether there is a sheet to write. Assumes nothing.
+-- Adding a record to a sheet in a run, at each way through the call. Only a record that was added has a
+-- length, for a plan has a field at least: so the length alone tells whether there is a sheet to write.
+-- Assumes nothing.
 use Prim.Native.Nat.{ℕ, zero, suc, ◌<◌, ◌≤◌}
 use mathlib.Core.Path.{◌≡◌, refl, sym, ap, ◌∙◌}
-use mathlib.Core.Bool.{true, false, true≢false}
+use mathlib.Core.Bool.{true, false, cond, true≢false}
 use mathlib.Core.List.{List, [], ◌++◌}
 use native.Mathlib.Omega.{arith}
 use borrow.Author.Tests.{lt-ltb, le-ltb, leb-false, eq-eqb, eqb-true, eqb-false, ne_eqb}
 use lib.Dec.{leb, eqb}
 use lib.IntN.{ℤ, pos}
 use lib.ListN.{length, drop}
+use Rattle.std.specs.Prelude.{Result, Ok, Err, unwrap_or}
+use Rattle.std.specs.Result.{result_err}
 use Rattle.rules.specs.declared.Answer.{Answer}
+use Rattle.rules.specs.declared.Refusal.{Refusal}
+use Rattle.rules.specs.declared.Refusal.TheVariants.{Room}
+use Rattle.rules.specs.Numbers.{PLAN}
+use Rattle.rules.specs.Refusals.{refusal_number, result_number, fields_answer}
 use Rattle.rules.specs.Form.{Form}
 use Rattle.rules.specs.Layout.{forms, most_pictures}
 use Rattle.rules.specs.Answers.{answer, answer_over, as_layout, lent_after, as_no_plan, number_over}
@@ -22,10 +29,10 @@ use Rattle.rules.proofs.Outcomes.{all_read, by_plan_lem}
 use Rattle.rules.proofs.PlanWalk.{plan_parts}
 use Rattle.rules.proofs.Plans.{forms_count}
 use Rattle.totals.specs.declared.Sheet.{Sheet}
-use Rattle.totals.specs.declared.Added.{Added}
 use Rattle.totals.specs.Batch.{record_at}
-use Rattle.totals.specs.Totals.{AddIs, BatchAddedIs, add_before, added_by, field_numbers, most_records, batch_added, with_row}
+use Rattle.totals.specs.Totals.{AddIs, Added, BatchAddedIs, add_before, added_by, field_numbers, most_records, batch_added, with_row}
 use Rattle.totals.proofs.Past.{before, is_added, judged, number_is, sheet_is}
+use Rattle.rules.proofs.Refusing.{refusal_some}
 use Rattle.collector.specs.PlanRuns.{not_plan_run}
 use Rattle.collector.specs.TotalRuns.{PlaceRunIs, TotalsAddRunIs, sheet_bytes, sheet_in, sheet_size, written_at}
 use Rattle.collector.proofs.Columns.{sheet_length}
@@ -106,7 +113,7 @@ module _ (φs : List Form) (some : 1 ≤ length φs) (few : length φs ≤ most_
 
 -- By a plan.
 module _ (b batch : List ℕ) (at : ℕ) (run : List ℕ) where
-  pub no_room : is_plan b ≡ true → length run < sheet_size → TotalsAddRunIs b batch at run 7 run
+  no_room : is_plan b ≡ true → length run < sheet_size → TotalsAddRunIs b batch at run 7 run
   unfolding packed
   no_room h l =
       by_plan_lem b (not_plan_run run 7 run) (λ φs. PlaceRunIs φs batch at run 7 run) (λ n. absurd (true≢false (sym h ∙ n)))
@@ -118,9 +125,22 @@ module _ (b batch : List ℕ) (at : ℕ) (run : List ℕ) where
         leaves = rw (lt-ltb (length run) sheet_size l);
       })
 
-  pub not_plan_lem : is_plan b ≡ false → TotalsAddRunIs b batch at run 12 run
+  not_plan_lem : is_plan b ≡ false → TotalsAddRunIs b batch at run 12 run
   unfolding packed
   not_plan_lem n = by_plan_lem b (not_plan_run run 12 run) (λ φs. PlaceRunIs φs batch at run 12 run) (λ _. (refl, refl)) (λ h. absurd (true≢false (sym h ∙ n)))
+
+  -- where the run is short, the plan is asked first
+  pub short_run : {A : Type 0} → length run < sheet_size → (o : Result A Refusal) → result_number o ≡ cond (is_plan b) 0 PLAN → (x : Refusal) → x ≡ unwrap_or (result_err o) Room → (n : ℕ)
+      → n ≡ packed (fields_answer (Err (record { refusal = x; field = 0 }))) → TotalsAddRunIs b batch at run n run
+  unfolding packed
+  short_run l (Ok p) e x q n g =
+      by_test (is_plan b)
+      (λ t. rw (g, q) (no_room t l))
+      (λ f. let z : ◌≡◌ {A = ℕ} 0 PLAN = rw f at e in absurd (omega arith))
+  short_run l (Err y) e x q n g =
+      by_test (is_plan b)
+      (λ t. absurd (refusal_some y (rw t at e)))
+      (λ f. let z : refusal_number y ≡ PLAN = rw f at e in rw (g, q, z) (not_plan_lem f))
 
   module _ (r : Added) where
     pub length_few : AddIs b batch at (sheet_in run) r → r.answer.length ≤ 65536

@@ -1,2 +1,3 @@
+pub mod ReadRuns
 pub mod PlanRuns
 pub mod TotalRuns

@@ -1,5 +1,5 @@
--- RULES 7.4: the C calls on plans, with rows as runs of bytes, eight a number: at least so many for reading, exactly so many for editing. Assumes
--- nothing.
+-- RULES 7.4: the C calls on plans, with rows as runs of bytes, eight a number: at least so many for reading,
+-- exactly so many for editing. Assumes nothing.
 use Rattle.std.specs.Prelude.{◌≡◌, cond, List, ℕ, ◌*◌, ◌/◌, ◌%◌, ltb, eqb, ℤ, pos, length}
 use Rattle.std.proofs.Math.Option.{Option}
 use Rattle.rules.specs.Numbers.{LENGTH, PLAN}

@@ -1,5 +1,5 @@
--- RULES 9.10: a totals sheet in a run of bytes, 97 numbers of eight bytes: the count, and 32 sums, least and greatest values; and the C call that
--- adds a record to it. Assumes nothing.
+-- RULES 9.10: a totals sheet in a run of bytes, 97 numbers of eight bytes: the count, and 32 sums, least and
+-- greatest values; and the C call that adds a record to it. Assumes nothing.
 use Rattle.std.specs.Prelude.{◌≡◌, cond, List, [], ◌++◌, ℕ, ltb, eqb, ℤ, pos, negsuc, length, drop}
 use Rattle.rules.specs.Numbers.{ROOM}
 use Rattle.rules.specs.Form.{Form}
@@ -7,8 +7,7 @@ use Rattle.rules.specs.Layout.{most_pictures}
 use Rattle.rules.specs.Answers.{answer, lent_after, ByPlan}
 use Rattle.rules.specs.Collector.{packed, bytes_of, int_in, row_bytes, row_in}
 use Rattle.totals.specs.declared.Sheet.{Sheet}
-use Rattle.totals.specs.declared.Added.{Added}
-use Rattle.totals.specs.Totals.{most_records, BatchAddedIs}
+use Rattle.totals.specs.Totals.{Added, most_records, BatchAddedIs}
 use Rattle.collector.specs.PlanRuns.{not_plan_run}
 
 -- RULES 9.10: so many bytes are a sheet
@@ -40,8 +39,8 @@ sheet_fits run right other = cond (ltb (length run) sheet_size) other right
 abbrev pub written_at : List ℕ → ℕ → Sheet → List ℕ
 written_at batch at s = cond (eqb at (length batch)) [] (sheet_bytes s)
 
--- RULES 9.10: the answer and the run are right for adding the record at a place by these pictures. That is 7 where the run is short, and else what comes
--- of adding the record to the sheet in the run.
+-- RULES 9.10: the answer and the run are right for adding the record at a place by these pictures. That is 7
+-- where the run is short, and else what comes of adding the record to the sheet in the run.
 pub record PlaceRunIs (φs : List Form) (batch : List ℕ) (at : ℕ) (run : List ℕ) (r : ℕ) (after : List ℕ) : Type 0 where
   pub added : Added
   pub adds : BatchAddedIs φs batch at (sheet_in run) added

@@ -11,4 +11,4 @@ pub returns : goal.returns
 unfolding sheet_in
 returns c =
     let f : SFits w64 c.get.result = record { sfits = c.get.type_inv } in
-    rw (c.counted_of-count.ensures, to_z-of_z f, c.get.ensures, get_in c.args.run.now 0 (omega (arith, c.requires)), c.get_column-sums.ensures, c.get_column-least.ensures, c.get_column-greatest.ensures)
+    rw (c.counted_of.ensures, to_z-of_z f, c.get.ensures, get_in c.args.run.now 0 (omega (arith, c.requires)), c.get_column.ensures, c.get_column-2.ensures, c.get_column-3.ensures)
