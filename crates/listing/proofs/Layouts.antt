@@ -1,5 +1,6 @@
--- The line of a layout says what compiling it answers. With the longest plan's room lent that never is ROOM, so the line is that of the
--- layout alone; and on success the plan's first byte and its length give the two counts. Assumes nothing.
+-- The line of a layout says what compiling it answers. With the longest plan's room lent that never is ROOM,
+-- so the line is that of the layout alone; and on success the plan's first byte and its length give the two
+-- counts. Assumes nothing.
 use mathlib.Core.Path.{◌≡◌, refl, sym, ◌∙◌}
 use mathlib.Core.Bool.{true, false, cond, true≢false}
 use mathlib.Core.List.{List, [], ◌∷◌, ◌++◌, map}
@@ -13,17 +14,21 @@ use borrow.Author.Tests.{le-ltb, eqb-true, eqb-false, eq-eqb, ne_eqb}
 use mir.Syntax.{w64}
 use mir.Val.{to_z}
 use mir.Facts.{to_z_pos}
+use Rattle.std.specs.Prelude.{Option as CodeOption, Some, None, Ok, Err}
 use Rattle.rules.specs.declared.Answer.{Answer}
+use Rattle.rules.specs.declared.Refused.{Refused}
+use Rattle.rules.specs.Refusals.{fields_answer}
 use Rattle.rules.specs.Numbers.{COUNT, ROOM, when, unless, first_of, bad_field}
 use Rattle.rules.specs.Layout.{count_fits, verdicts, accepted, forms, record_length, plan_of, HasPlan}
 use Rattle.rules.specs.Answers.{answer, lent_after, number_over, answer_over, compile_number, compile_answer, compile_memory}
-use Rattle.rules.specs.Lister.{decimal, signed_decimal, layout_line}
+use Rattle.rules.specs.Lister.{decimal, signed_decimal, layout_line, answer_line}
 use Rattle.rules.proofs.Firsts.{first_zero, first_stop}
 use Rattle.rules.proofs.Logic.{by_test}
 use Rattle.rules.proofs.Plans.{plan_length, record_le, forms_good, forms_count}
-use Rattle.listing.specs.Lines.{most_plan, line_length, line_memory, text_of, layout_text, listed_of}
+use Rattle.rules.proofs.Refusing.{refusal_eqb}
+use Rattle.listing.specs.Lines.{most_plan, line_length, line_memory, text_of, length_in, layout_text, listed_of}
 use Rattle.listing.specs.Program.{most_record}
-use Rattle.listing.proofs.Texts.{answer_text}
+use Rattle.listing.proofs.Texts.{refusal_text_of, values_text_of}
 
 pub record_fits : (l : List ℕ) → accepted l ≡ true → record_length (forms l) ≤ most_record
 record_fits l h = omega (arith, record_le (forms l) (forms_good l h), (forms_count l h).1)
@@ -121,42 +126,56 @@ counts_text l plan a d =
     let e : a.length - 3 - 3 * get_or plan 0 0 ≡ w = omega (arith, d.size, d.first) in
     rw (e, d.first, to_z_pos w64 {n = n} (omega (arith, d.size, d.few)), to_z_pos w64 {n = w} (omega (arith, d.size, d.few)))
 
--- the line's length and the lent memory, once the answer's text is known
-pub listed : (l plan out after : List ℕ) (a : Answer) (zs : List ℤ) (r : ℕ) → a ≡ compile_answer l plan
-    → (a.number ≡ 0 → map signed_decimal zs ≡ decimal (length (forms l)) ∷ decimal (record_length (forms l)) ∷ [])
-    → r ≡ line_length (text_of 0 a.number a.field zs) out → after ≡ line_memory (text_of 0 a.number a.field zs) out
-    → (record { plan = a.length; line = r } ≡ listed_of l plan out) × (after ≡ line_memory (layout_text l plan) out)
-unfolding layout_text listed_of
-listed l plan out after a zs r e h p q =
-    let t = answer_text 0 a zs _ h in
-    (rw (p, t, e), rw (← e, ← t) q)
+-- the line's length and the lent memory, once the line's text is known
+module _ (l plan out after : List ℕ) (r : ℕ) where
+  pub listed_taken : (n : ℕ) (zs : List ℤ) → fields_answer (Ok n) ≡ compile_answer l plan
+      → map signed_decimal zs ≡ decimal (length (forms l)) ∷ decimal (record_length (forms l)) ∷ []
+      → r ≡ line_length (text_of 0 (Ok zs)) out → after ≡ line_memory (text_of 0 (Ok zs)) out
+      → (record { plan = Some n; line = r } ≡ listed_of l plan out) × (after ≡ line_memory (layout_text l plan) out)
+  unfolding layout_text listed_of
+  listed_taken n zs e h p q =
+      let t : text_of 0 (Ok zs) ≡ answer_line 0 (fields_answer (Ok n)) (decimal (length (forms l)) ∷ decimal (record_length (forms l)) ∷ []) =
+      rw (← h) (values_text_of 0 n zs) in
+      rw (← e) (rw (p, t), q ∙ rw t)
 
-no_length : (n field length : ℕ) → (n ≡ 0 → ⊥) → (answer n field length (pos 0)).length ≡ 0
+  pub listed_refused : (f : Refused) → fields_answer (Err f) ≡ compile_answer l plan
+      → r ≡ line_length (text_of 0 (Err f)) out → after ≡ line_memory (text_of 0 (Err f)) out
+      → (record { plan = None; line = r } ≡ listed_of l plan out) × (after ≡ line_memory (layout_text l plan) out)
+  unfolding layout_text listed_of
+  listed_refused f e p q =
+      let t = refusal_text_of 0 f (decimal (length (forms l)) ∷ decimal (record_length (forms l)) ∷ []) in
+      rw (← e) (rw (p, t, refusal_eqb f.refusal), q ∙ rw t)
+
+no_length : (n field length : ℕ) → (n ≡ 0 → ⊥) → length_in (answer n field length (pos 0)) ≡ None
 no_length zero field length h = absurd (h refl)
-no_length (suc n) field length h = refl
+no_length (suc n) field length h = rw (ne_eqb (suc n) 0 h)
 
--- What compiling leaves in the longest plan's room: the length 0 exactly where the layout is refused, else the plan, which stands first.
-module _ (l plan : List ℕ) (n : ℕ) (room : most_plan ≤ length plan) (p : n ≡ (compile_answer l plan).length) where
-  taken_plan : accepted l ≡ true → (n ≡ length (plan_of (forms l))) × (compile_memory l plan ≡ plan_of (forms l) ++ drop (length (plan_of (forms l))) plan)
+-- What compiling leaves in the longest plan's room: a length exactly where the layout is accepted, and the
+-- plan, which stands first.
+module _ (l plan : List ℕ) (o : CodeOption ℕ) (room : most_plan ≤ length plan) (p : o ≡ length_in (compile_answer l plan)) where
+  taken_plan : accepted l ≡ true → (o ≡ Some (length (plan_of (forms l)))) × (compile_memory l plan ≡ plan_of (forms l) ++ drop (length (plan_of (forms l))) plan)
   unfolding compile_answer answer_over compile_memory compile_number
   taken_plan h =
       let r = when (ltb (length plan) (length (plan_of (forms l)))) ROOM in
       let z : number_over (unless (count_fits l) COUNT) (verdicts l) r ≡ 0 = accepted_number l (length plan) (omega (arith, plan_fits l h)) h in
       (p ∙ rw z, rw z)
 
-  refused_plan : accepted l ≡ false → n ≡ 0
+  refused_plan : accepted l ≡ false → o ≡ None
   unfolding compile_answer answer_over
   refused_plan h =
       let r = when (ltb (length plan) (length (plan_of (forms l)))) ROOM in
       let b = unless (count_fits l) COUNT in
       p ∙ no_length (number_over b (verdicts l) r) (cond (eqb b 0) (bad_field (verdicts l)) 0) _ (λ z. true≢false (sym (accepted_before l r z) ∙ h))
 
-  pub plan_none : n ≡ 0 → accepted l ≡ false
-  plan_none z = by_test (accepted l) (λ h. absurd (omega (arith, (taken_plan h).0, plan_length (forms l)))) (λ h. h)
+  pub plan_none : o ≡ None → accepted l ≡ false
+  plan_none z = by_test (accepted l) (λ h. absurd (let e = sym z ∙ (taken_plan h).0 in cc)) (λ h. h)
 
-  pub plan_first : (after : List ℕ) → (n ≡ 0 → ⊥) → after ≡ compile_memory l plan → HasPlan l (take n after)
-  plan_first after s q =
+  pub plan_first : (n : ℕ) (after : List ℕ) → o ≡ Some n → after ≡ compile_memory l plan → HasPlan l (take n after)
+  plan_first n after s q =
       let b = plan_of (forms l) in
       by_test (accepted l)
-      (λ h. let w = taken_plan h in record { layout = h; plan = sym (rw (q, w.1, w.0) (take_at b (drop (length b) plan) (length b) refl)) })
-      (λ h. absurd (s (refused_plan h)))
+      (λ h.
+      let w = taken_plan h in
+      let m : n ≡ length b = let e = sym s ∙ w.0 in cc in
+      record { layout = h; plan = sym (rw (q, w.1, m) (take_at b (drop (length b) plan) (length b) refl)) })
+      (λ h. absurd (let e = sym s ∙ refused_plan h in cc))

@@ -1,5 +1,4 @@
 pub mod Numerals
-pub mod Signs
 pub mod Writing
 pub mod Commas
 pub mod Values

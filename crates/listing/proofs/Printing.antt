@@ -1,5 +1,5 @@
--- What a program prints, from what the calls of this library leave: with the rooms long enough the line stands first in the lent memory, and
--- it is that line of the input's listing. Assumes nothing.
+-- What a program prints, from what the calls of this library leave: with the rooms long enough the line
+-- stands first in the lent memory, and it is that line of the input's listing. Assumes nothing.
 use mathlib.Core.Path.{◌≡◌, refl, sym, ◌∙◌, ap}
 use mathlib.Core.Bool.{Bool, true, false}
 use mathlib.Core.List.{List, [], ◌∷◌}
@@ -9,12 +9,13 @@ use lib.Dec.{ltb}
 use lib.ListN.{length, get_or, take, drop}
 use lib.Seq.{take_at, length-take-le}
 use borrow.Author.Tests.{ltb-true, ltb-false, le-leb, lt-leb}
+use Rattle.std.specs.Prelude.{Some, None}
 use Rattle.rules.specs.Layout.{accepted, forms, cut, HasPlan}
 use Rattle.rules.specs.Answers.{compile_answer, compile_memory}
 use Rattle.rules.specs.Lister.{most_input, over_limit}
 use Rattle.rules.proofs.Plans.{forms_count}
 use Rattle.listing.specs.declared.Listed.{Listed}
-use Rattle.listing.specs.Lines.{most_line, most_plan, line_length, line_memory, layout_text, listed_of, RecordLineIs}
+use Rattle.listing.specs.Lines.{most_line, most_plan, line_length, line_memory, length_in, layout_text, listed_of, RecordLineIs}
 use Rattle.listing.specs.Program.{lines_in, layout_in, ListingLine, line_count}
 use Rattle.listing.proofs.Layouts.{layout_text_lem, plan_none, plan_first}
 use Rattle.listing.proofs.Records.{record_line_of}
@@ -45,7 +46,7 @@ module _ (n : ℕ) (input : List ℕ) (over : Bool) (l : n ≤ length input) (t 
 -- Line 0, the layout's. What compiling has left says whether there are others, and is then the layout's plan.
 module _ (s l plan out : List ℕ) (r : Listed) (h : length s ≤ most_input) (wide : most_plan ≤ length plan) (e : l ≡ layout_in s)
     (a : r ≡ listed_of l plan out) where
-  compiled_length : r.plan ≡ (compile_answer l plan).length
+  compiled_length : r.plan ≡ length_in (compile_answer l plan)
   unfolding listed_of
   compiled_length = ap (λ (x : Listed). x.plan) a
 
@@ -55,15 +56,15 @@ module _ (s l plan out : List ℕ) (r : Listed) (h : length s ≤ most_input) (w
       let t = line_first (layout_text l plan) out after r.line room (ap (λ (x : Listed). x.line) a) q in
       rw (le-leb (length s) most_input h) (t ∙ layout_text_lem l plan wide ∙ rw e)
 
-  pub not_accepted : r.plan ≡ 0 → accepted l ≡ false
+  pub not_accepted : r.plan ≡ None → accepted l ≡ false
   not_accepted z = plan_none l plan r.plan wide compiled_length z
 
-  pub layout_refused : r.plan ≡ 0 → 1 ≡ line_count s
+  pub layout_refused : r.plan ≡ None → 1 ≡ line_count s
   unfolding line_count
   layout_refused z = rw (le-leb (length s) most_input h, ← e, not_accepted z)
 
-  pub layout_taken : (after : List ℕ) → (r.plan ≡ 0 → ⊥) → after ≡ compile_memory l plan → HasPlan (layout_in s) (take r.plan after)
-  layout_taken after z q = rw (← e) (plan_first l plan r.plan wide compiled_length after z q)
+  pub layout_taken : (n : ℕ) (after : List ℕ) → r.plan ≡ Some n → after ≡ compile_memory l plan → HasPlan (layout_in s) (take n after)
+  layout_taken n after z q = rw (← e) (plan_first l plan r.plan wide compiled_length n after z q)
 
 -- Line k, that of record k by the plan of the input's layout. There is one for each of the input's lines.
 module _ (s plan : List ℕ) (h : length s ≤ most_input) (p : HasPlan (layout_in s) plan) where

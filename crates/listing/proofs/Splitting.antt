@@ -1,42 +1,47 @@
--- The lines of an input, one after the other: what stands up to the next LF is a line, and the lines behind it are those of what follows;
--- where no LF is left, what is left is the last line unless it is empty. Assumes nothing.
+-- The lines of an input, one after the other: what stands up to the next LF is a line, and the lines behind
+-- it are those of what follows; where no LF is left, what is left is the last line unless it is empty.
+-- Assumes nothing.
 use mathlib.Core.Path.{◌≡◌, refl, sym, ◌∙◌, ap}
 use mathlib.Core.Bool.{true, false}
 use mathlib.Core.List.{List, [], ◌∷◌, ◌++◌, append_assoc, append-nil}
-use Prim.Native.Nat.{ℕ, suc, ◌+◌, ◌-◌, ◌≤◌, ◌<◌}
+use Prim.Native.Nat.{ℕ, suc, ◌+◌, ◌-◌, ◌≤◌, ◌<◌, min}
 use Prim.Native.Char.{code}
-use native.Mathlib.Nat.{add-zero}
-use native.Mathlib.Numerals.{add-one}
+use native.Mathlib.Nat.{add-zero, min-eq_left, min-eq_right}
 use native.Mathlib.Omega.{arith}
-use lib.Dec.{eqb, ltb}
+use lib.Dec.{eqb, ltb, leb}
 use lib.ListN.{length, get_or, take, drop, length-drop, drop_of_length-le}
-use lib.Seq.{drop-cons, drop-drop, take_all, get_or-drop}
-use borrow.Author.Tests.{ne_eqb, ltb-true, ltb-false}
+use lib.Seq.{drop-drop, take_all, get_or-drop}
+use borrow.Author.Tests.{ltb-true, ltb-false, leb-true, leb-false}
+use Rattle.std.specs.Prelude.{◌==◌, position, nat_lt, Option, Some, None}
+use Rattle.std.specs.List.{position_or_len}
+use Rattle.std.specs.Option.{unwrap_or, MatchOption}
+use denote.Ref.{Bor}
 use Rattle.rules.specs.Lister.{lines_from}
 use Rattle.rules.proofs.Logic.{by_test}
 use Rattle.listing.specs.Lines.{to_end}
 use Rattle.listing.specs.Program.{lines_in, layout_in, Begins}
 
--- where the walk stands, the end is as far as it was from the start
-module _ (s : List ℕ) (from at : ℕ) (e : at + to_end (drop at s) ≡ from + to_end (drop from s)) where
-  pub end_here : at < length s → get_or s at 0 ≡ 10 → at ≡ from + to_end (drop from s)
-  unfolding to_end
-  end_here l h = sym (add-zero at) ∙ rw (drop-cons s at 0 l, h) at e
-
-  pub end_later : at < length s → (get_or s at 0 ≡ 10 → ⊥) → at + 1 + to_end (drop (at + 1) s) ≡ from + to_end (drop from s)
-  unfolding to_end
-  end_later l h =
-      let k = rw (drop-cons s at 0 l, ne_eqb (get_or s at 0) 10 h) at e in
-      rw (add-one at) (omega arith)
-
-  pub end_last : length s ≤ at → at ≡ from + to_end (drop from s)
-  unfolding to_end
-  end_last l = sym (add-zero at) ∙ rw (drop_of_length-le s l) at e
-
 to_end_le : (s : List ℕ) → to_end s ≤ length s
 unfolding to_end
 to_end_le [] = omega arith
 to_end_le (b ∷ s) = let h = to_end_le s in by_test (eqb b (code "\n")) (λ e. rw e (omega arith)) (λ e. rw e (omega arith))
+
+-- The end by the first LF, where there is one, and behind all bytes.
+
+to_end_is : (s : List ℕ) → to_end s ≡ position_or_len (λ b. b == 10) s
+unfolding to_end
+to_end_is [] = refl
+to_end_is (b ∷ s) = by_test (eqb b (code "\n")) (λ e. rw e refl) (λ e. rw (e, to_end_is s) (omega arith))
+
+pub end_first : (s : List ℕ) → unwrap_or (position (λ b. b == 10) s) (length s) ≡ to_end s
+end_first s =
+    let p = position_or_len (λ b. b == 10) s in
+    let e = to_end_is s in
+    by_test (nat_lt p (length s)) (λ t. rw (e, t) refl) (λ t. rw (e, t) (omega (arith, ltb-false p (length s) t, to_end_le s)))
+
+pub end_past : (s : List ℕ) (from : ℕ) → length s ≤ from → from ≡ from + to_end (drop from s)
+unfolding to_end
+end_past s from l = rw (drop_of_length-le s l) (omega arith)
 
 -- the end lies in the input
 line_inside : (s : List ℕ) (from end : ℕ) → from ≤ length s → end ≡ from + to_end (drop from s) → (from ≤ end) × (end ≤ length s)
@@ -115,7 +120,8 @@ line_at s k at end b h e =
       next = rw here at (drop-drop 1 k ls);
     }
 
--- What stands up to byte `end` is the layout line, with nothing in it where the input is empty, and line 1 begins behind it.
+-- What stands up to byte `end` is the layout line, with nothing in it where the input is empty, and line 1
+-- begins behind it.
 pub record LayoutAt (s : List ℕ) (end : ℕ) : Type 0 where
   pub inside : end ≤ length s
   pub is : take end s ≡ layout_in s
@@ -133,3 +139,63 @@ layout_at (b ∷ s) end e =
 pub none_left : (s : List ℕ) (k at : ℕ) → Begins s k at → length s ≤ at → k ≤ length (lines_in s) → k ≡ length (lines_in s)
 unfolding lines_from
 none_left s k at b h l = omega (arith, length-drop k (lines_in s), ap length (rw (drop_of_length-le s h) at b))
+
+-- A walk's next line, and what it has still to give.
+pub walk_inside : (s : List ℕ) (end : ℕ) → end ≡ 0 + to_end (drop 0 s) → end ≤ length s
+walk_inside s end e = (line_inside s 0 end (omega arith) e).1
+
+pub walk_next : (s : List ℕ) (end : ℕ) → 1 ≤ length s → end ≡ 0 + to_end (drop 0 s)
+    → lines_in s ≡ take end s ∷ lines_in (drop (min (length s) (end + 1)) s)
+walk_next s end l e =
+    let n : end - 0 ≡ end = omega arith in
+    let w = rw n at (line_next s 0 end e l) in
+    by_test (leb (end + 1) (length s))
+    (λ t. rw (min-eq_right (leb-true (end + 1) (length s) t)) w)
+    (λ t.
+    let h = leb-false (end + 1) (length s) t in
+    let q : length s ≤ end + 1 = omega arith in
+    let d : drop (length s) s ≡ drop (end + 1) s = drop_of_length-le s {i = length s} (omega arith) ∙ sym (drop_of_length-le s {i = end + 1} q) in
+    rw (min-eq_left q, d) w)
+
+pub walk_last : (s : List ℕ) → length s ≤ 0 → lines_in s ≡ []
+unfolding lines_from
+walk_last [] l = refl
+walk_last (b ∷ s) l = absurd (omega arith)
+
+-- The walk's first line is the layout's, and an input without one has no other.
+pub layout_first : (s : List ℕ) (r : Option (Bor (List ℕ))) (d x : Bor (List ℕ)) (left : List (List ℕ)) → x ≡ unwrap_or r d → d.now ≡ []
+    → MatchOption r ((lines_in s ≡ []) × (left ≡ [])) (λ y. lines_in s ≡ y.now ∷ left)
+    → (x.now ≡ layout_in s) × (left ≡ drop 1 (lines_in s))
+layout_first s None d x left e z m = (ap (λ (y : Bor (List ℕ)). y.now) e ∙ z ∙ rw m.0, m.1 ∙ rw m.0)
+layout_first s (Some y) d x left e z m = (ap (λ (v : Bor (List ℕ)). v.now) e ∙ rw m, rw m)
+
+-- The next of the lines that are left is line k, and line k + 1 is the first of the others.
+pub record NextLine (ls : List (List ℕ)) (k : ℕ) (line : List ℕ) (left : List (List ℕ)) : Type 0 where
+  pub there : k < length ls
+  pub is : get_or ls k [] ≡ line
+  pub next : left ≡ drop (k + 1) ls
+
+pub next_line : (ls : List (List ℕ)) (k : ℕ) (line : List ℕ) (left : List (List ℕ)) → drop k ls ≡ line ∷ left → NextLine ls k line left
+next_line ls k line left e =
+    record {
+      there = omega (arith, length-drop k ls, ap length e);
+      is = rw (add-zero k) at (sym (get_or-drop k ls 0 [])) ∙ rw e;
+      next = rw e at (drop-drop 1 k ls);
+    }
+
+-- no input has more lines than bytes, but for one
+lines_most : (sofar s : List ℕ) → length (lines_from sofar s) ≤ suc (length s)
+unfolding lines_from
+lines_most [] [] = omega arith
+lines_most (c ∷ sofar) [] = omega arith
+lines_most sofar (b ∷ s) =
+    by_test (eqb b (code "\n"))
+    (λ e. rw e (omega (arith, lines_most [] s)))
+    (λ e. rw e (omega (arith, lines_most (sofar ++ (b ∷ [])) s)))
+
+pub lines_few : (s : List ℕ) → length (lines_in s) ≤ suc (length s)
+lines_few s = lines_most [] s
+
+-- where no line is left
+pub none_behind : (ls : List (List ℕ)) (k : ℕ) → [] ≡ drop k ls → k ≤ length ls → k ≡ length ls
+none_behind ls k e l = omega (arith, length-drop k ls, ap length e)

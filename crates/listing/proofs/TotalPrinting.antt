@@ -1,6 +1,7 @@
--- What a program that totals an input prints, from what the calls of this library leave, and what it has added: behind each record the sheet is
--- that of the records so far. It holds the totals of those that were accepted. Assumes nothing.
-use mathlib.Core.Path.{◌≡◌, refl, ◌∙◌, ap}
+-- What a program that totals an input prints, from what the calls of this library leave, and what it has
+-- added: behind each record the sheet is that of the records so far. It holds the totals of those that were
+-- accepted. Assumes nothing.
+use mathlib.Core.Path.{◌≡◌, refl, sym, ◌∙◌, ap}
 use mathlib.Core.Bool.{◌||◌}
 use mathlib.Core.List.{List, [], ◌∷◌}
 use Prim.Native.Nat.{ℕ, suc, ◌+◌, ◌≤◌, ◌<◌}
@@ -8,21 +9,25 @@ use native.Mathlib.Numerals.{add-one}
 use native.Mathlib.Omega.{arith}
 use lib.Dec.{eqb}
 use lib.ListN.{length, get_or, take}
-use borrow.Author.Tests.{ne_eqb, le-leb, lt-leb}
+use borrow.Author.Tests.{ne_eqb, eqb-false, le-leb, lt-leb}
+use Rattle.std.specs.Prelude.{Some, None, Result, Ok, Err}
+use Rattle.rules.specs.declared.Refused.{Refused}
+use Rattle.rules.specs.Refusals.{refusal_number, fields_answer}
 use Rattle.rules.specs.Numbers.{SIZE, FULL}
 use Rattle.rules.specs.Layout.{plan_of, HasPlan}
 use Rattle.rules.specs.Answers.{as_no_plan, as_layout}
 use Rattle.rules.specs.Lister.{most_input}
 use Rattle.rules.proofs.Logic.{by_test}
 use Rattle.rules.proofs.Plans.{forms_count, layout_one}
+use Rattle.rules.proofs.Refusing.{refusal_eqb}
 use Rattle.totals.specs.declared.Sheet.{Sheet}
-use Rattle.totals.specs.declared.Added.{Added}
-use Rattle.totals.specs.Totals.{empty_sheet, RecordAddIs}
+use Rattle.totals.specs.Totals.{Added, added_in, empty_sheet, RecordAddIs}
 use Rattle.totals.specs.History.{Offer, Went}
 use Rattle.listing.specs.declared.total.Entered.{Entered}
+use Rattle.listing.specs.declared.total.RefusedLine.{RefusedLine}
 use Rattle.listing.specs.Lines.{most_line, line_length, line_memory}
 use Rattle.listing.specs.Program.{lines_in, layout_in, ListingLine}
-use Rattle.listing.specs.TotalLines.{count_text, place_text, refusal_text, EnteredIs}
+use Rattle.listing.specs.TotalLines.{count_text, place_text, refusal_text, refused_line, EnteredIs}
 use Rattle.listing.specs.TotalProgram.{fields_in, refused_one, limit_of, Adds, Adding, Totalled, TotalLine}
 use Rattle.listing.proofs.Printing.{line_first}
 
@@ -32,6 +37,26 @@ layout_of s text h w = let e = rw (le-leb (length s) most_input h) at w in rw e 
 
 pub over_of : (s text : List ℕ) → most_input < length s → ListingLine s 0 text → TotalLine s text
 over_of s text h w = let e = (rw (lt-leb (length s) most_input h) at w).1 in rw e (TotalLine.over h)
+
+-- What an addition that came to nothing, or to a refusal, has answered.
+taken_number : (k : ℕ) (out : List ℕ) (o : Result ℕ Refused) → refused_line k o out ≡ None → (fields_answer o).number ≡ 0
+taken_number k out (Ok n) h = refl
+taken_number k out (Err e) h = absurd cc
+
+refused_number : (k : ℕ) (out : List ℕ) (o : Result ℕ Refused) (x : RefusedLine) → refused_line k o out ≡ Some x
+    → ((fields_answer o).number ≡ refusal_number x.refusal) × (x.line ≡ line_length (refusal_text k (fields_answer o)) out)
+refused_number k out (Ok n) x h = absurd cc
+refused_number k out (Err e) x h =
+    let q : record { refusal = e.refusal; line = line_length (refusal_text k (fields_answer (Err e))) out } ≡ x = cc in
+    (ap (λ (y : RefusedLine). refusal_number y.refusal) q, sym (ap (λ (y : RefusedLine). y.line) q))
+
+taken_one : (n number : ℕ) → number ≡ 0 → (n ≡ n + refused_one number) × (0 ≡ limit_of number)
+unfolding refused_one limit_of
+taken_one n number h = rw h (omega arith, refl)
+
+refused_one_lem : (n number : ℕ) → (number ≡ 0 → ⊥) → n + 1 ≡ n + refused_one number
+unfolding refused_one
+refused_one_lem n number h = rw (ne_eqb number 0 h)
 
 -- By the plan of the input's layout.
 module _ (s plan : List ℕ) (p : HasPlan (layout_in s) plan) where
@@ -49,42 +74,37 @@ module _ (s plan : List ℕ) (p : HasPlan (layout_in s) plan) where
   -- The next record, by its line's contract.
   module _ (k n : ℕ) (t : Sheet) (rec out : List ℕ) (r : Entered) (after : List ℕ) (g : Adding s k n 0 t) (there : k + 1 < length (lines_in s))
       (e : get_or (lines_in s) (k + 1) [] ≡ rec) (w : EnteredIs (k + 1) plan rec t out r after) where
-    adds_next : Adds s (suc k) t w.added
-    adds_next = rw (← add-one k) (adds_of (k + 1) t w.added there (rw e w.adds))
+    adds_next : Adds s (suc k) t (added_in w.added)
+    adds_next = rw (← add-one k) (adds_of (k + 1) t (added_in w.added) there (rw e w.adds))
 
-    number_is : r.number ≡ w.added.answer.number
-    number_is = ap (λ (x : Entered). x.number) w.gives
+    refused_is : refused_line (k + 1) w.added.outcome out ≡ r.refused
+    refused_is = sym (ap (λ (x : Entered). x.refused) w.gives)
 
-    pub added_next : (m stop : ℕ) → m ≡ n + refused_one r.number → stop ≡ limit_of r.number → Adding s (k + 1) m stop r.sheet
-    added_next m stop x y =
-        rw (x, y, number_is, ap (λ (x : Entered). x.sheet) w.gives, add-one k) (Adding.further g w.added adds_next)
+    sheet_is : r.sheet ≡ w.added.sheet
+    sheet_is = ap (λ (x : Entered). x.sheet) w.gives
 
-    pub refused_printed : (r.number ≡ 0 → ⊥) → most_line ≤ length out → TotalLine s (take r.line after)
-    refused_printed h room =
-        let l = line_first (refusal_text (k + 1) w.added.answer) out after r.line room (ap (λ (x : Entered). x.line) w.gives) w.leaves in
-        rw (l, add-one k) (TotalLine.refused g w.added adds_next (λ z. h (number_is ∙ z)))
+    pub added_next : r.refused ≡ None → Adding s (k + 1) n 0 r.sheet
+    added_next h =
+        let z : (fields_answer w.added.outcome).number ≡ 0 = taken_number (k + 1) out w.added.outcome (refused_is ∙ h) in
+        let c = taken_one n (fields_answer w.added.outcome).number z in
+        rw (sheet_is, c.0, c.1, add-one k) (Adding.further g (added_in w.added) adds_next)
 
-pub taken_one : (n number : ℕ) → number ≡ 0 → (n ≡ n + refused_one number) × (0 ≡ limit_of number)
-unfolding refused_one limit_of
-taken_one n number h = rw h (omega arith, refl)
+    -- a refused one, and its line
+    module _ (x : RefusedLine) (h : r.refused ≡ Some x) where
+      refusal_is : ((fields_answer w.added.outcome).number ≡ refusal_number x.refusal) × (x.line ≡ line_length (refusal_text (k + 1) (fields_answer w.added.outcome)) out)
+      refusal_is = refused_number (k + 1) out w.added.outcome x (refused_is ∙ h)
 
-pub refused_one_lem : (n number : ℕ) → (number ≡ 0 → ⊥) → n + 1 ≡ n + refused_one number
-unfolding refused_one
-refused_one_lem n number h = rw (ne_eqb number 0 h)
+      pub refused_next : (stop : ℕ) → stop ≡ limit_of (refusal_number x.refusal) → Adding s (k + 1) (n + 1) stop r.sheet
+      refused_next stop y =
+          let m = (fields_answer w.added.outcome).number in
+          let c = refused_one_lem n m (λ z. eqb-false (refusal_number x.refusal) 0 (refusal_eqb x.refusal) (sym refusal_is.0 ∙ z)) in
+          rw (sheet_is, c, y, ← refusal_is.0, add-one k) (Adding.further g (added_in w.added) adds_next)
 
--- Which numbers are a limit's.
-module _ (number : ℕ) where
-  pub limit_full : number ≡ FULL → number ≡ limit_of number
-  unfolding limit_of
-  limit_full h = rw h
-
-  pub limit_size : number ≡ SIZE → number ≡ limit_of number
-  unfolding limit_of
-  limit_size h = rw h
-
-  pub no_limit : (number ≡ FULL → ⊥) → (number ≡ SIZE → ⊥) → 0 ≡ limit_of number
-  unfolding limit_of
-  no_limit f g = rw (ne_eqb number FULL f, ne_eqb number SIZE g)
+      pub refused_printed : most_line ≤ length out → TotalLine s (take x.line after)
+      refused_printed room =
+          let l = line_first (refusal_text (k + 1) (fields_answer w.added.outcome)) out after x.line room refusal_is.1 w.leaves in
+          let z = λ (q : (fields_answer w.added.outcome).number ≡ 0). eqb-false (refusal_number x.refusal) 0 (refusal_eqb x.refusal) (sym refusal_is.0 ∙ q) in
+          rw (l, add-one k) (TotalLine.refused g (added_in w.added) adds_next z)
 
 pub stop_limit : (s : List ℕ) (k n stop : ℕ) (t : Sheet) → Adding s k n stop t → stop ≡ limit_of stop
 unfolding limit_of

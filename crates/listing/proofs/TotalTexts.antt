@@ -1,36 +1,43 @@
--- The text of a total's line is written part by part as a listing's is, and that of a record refused for its length or for a field that says
--- nothing is the lister's for this record. What a contract asks of a record's line determines it. Assumes nothing.
+-- The text of a total's line is written part by part as a listing's is, and that of a record refused for its
+-- length or for a field that says nothing is the lister's for this record. What a contract asks of a record's
+-- line determines it. Assumes nothing.
 use mathlib.Core.Path.{◌≡◌, refl, sym, ◌∙◌, ap}
 use mathlib.Core.List.{List, [], ◌∷◌, ◌++◌, map}
 use mathlib.Core.Logic.{◌⊎◌, ⊎_elim}
 use mathlib.Core.Option.{Option}
+use mathlib.Core.Bool.{cond}
 use Prim.Native.Nat.{ℕ, ◌+◌, ◌≤◌, ◌<◌}
 use native.Mathlib.Omega.{arith}
 use lib.Dec.{eqb, leb}
 use lib.IntN.{ℤ, pos}
 use lib.ListN.{length, get_or, length-append}
-use borrow.Author.Tests.{eq-eqb, ne_eqb, lt-ltb, le-ltb}
+use borrow.Author.Tests.{eqb-false, ne_eqb, lt-ltb, le-ltb}
+use Rattle.std.specs.Prelude.{Some, None, Result, Ok, Err}
 use Rattle.rules.specs.declared.Answer.{Answer}
+use Rattle.rules.specs.declared.Refusal.{Refusal}
+use Rattle.rules.specs.declared.Refusal.TheVariants.{Text, Symbol, Long, Shape, Digits, Value, Room, Size, Length, Conversion, Count, Plan, Input, Full}
+use Rattle.rules.specs.declared.Refused.{Refused}
+use Rattle.rules.specs.Refusals.{refusal_number, fields_answer}
 use Rattle.rules.specs.Numbers.{LENGTH, CONVERSION, first_of, bad_field}
 use Rattle.rules.specs.Form.{Form}
 use Rattle.rules.specs.Layout.{most_pictures, record_length, forms}
 use Rattle.rules.specs.Answers.{unsaid, amounts, number_over, answer_over, read_before, record_answer, as_no_plan, as_layout}
 use Rattle.rules.specs.Lister.{decimal, signed_decimal, answer_line, record_line}
 use Rattle.rules.proofs.Logic.{by_test}
+use Rattle.rules.proofs.Refusing.{refusal_eqb}
 use Rattle.totals.specs.declared.Sheet.{Sheet}
-use Rattle.totals.specs.declared.Added.{Added}
-use Rattle.totals.specs.Totals.{most_records, place_numbers, field_numbers, add_before, added_by, record_added, RecordAddIs}
+use Rattle.totals.specs.Totals.{Added, added_in, most_records, place_numbers, field_numbers, add_before, added_by, record_added, RecordAddIs}
 use Rattle.totals.proofs.Columns.{numbers_first}
 use Rattle.totals.proofs.Past.{record_add_one}
 use Rattle.listing.specs.declared.total.Entered.{Entered}
 use Rattle.listing.specs.Put.{Puts, end}
 use Rattle.listing.specs.Lines.{most_line, line_length, line_memory, text_of, RecordText}
-use Rattle.listing.specs.TotalLines.{refusal_text, EnteredIs, row_text, place_text}
+use Rattle.listing.specs.TotalLines.{refusal_text, refused_line, EnteredIs, row_text, place_text}
 use Rattle.listing.proofs.Numerals.{decimal_le}
 use Rattle.listing.proofs.Writing.{put_join}
 use Rattle.listing.proofs.Commas.{line_is}
-use Rattle.listing.proofs.Values.{texts}
-use Rattle.listing.proofs.Texts.{values_le, line_in, answer_text}
+use Rattle.listing.proofs.Values.{texts, values_le}
+use Rattle.listing.proofs.Texts.{line_in, refusal_text_of}
 
 -- A number and values.
 
@@ -59,34 +66,75 @@ module _ (s : Sheet) (i : ℕ) where
   unfolding place_text
   place_some h = rw (lt-ltb i most_pictures h)
 
--- A refusal says no values.
-refused_text : (k : ℕ) (r : Answer) (more : List (List ℕ)) → (r.number ≡ 0 → ⊥) → refusal_text k r ≡ answer_line k r more
+-- A refusal says no values, and no refusal has no line.
+refusal_only : (k : ℕ) (r : Answer) (more : List (List ℕ)) → (r.number ≡ 0 → ⊥) → refusal_text k r ≡ answer_line k r more
 unfolding refusal_text answer_line
-refused_text k r more h = rw (ne_eqb r.number 0 h)
+refusal_only k r more h = rw (ne_eqb r.number 0 h)
+
+refusal_says : (k : ℕ) (e : Refused) → text_of k (Err e) ≡ refusal_text k (fields_answer (Err e))
+unfolding refusal_text
+refusal_says k e = rw (refusal_eqb e.refusal) (refusal_text_of k e [])
+
+no_refusal : (k n : ℕ) → refusal_text k (fields_answer (Ok n)) ≡ []
+unfolding refusal_text
+no_refusal k n = refl
 
 -- A record, by what adding it answers.
-module _ (k : ℕ) (b rec : List ℕ) (s : Sheet) (out : List ℕ) (a : Added) (w : RecordAddIs b rec s a) where
-  pub entered_none : a.answer.number ≡ 0
-      → EnteredIs k b rec s out (record { number = 0; line = 0; sheet = a.sheet }) out × (0 ≤ length out)
-  entered_none h =
-      let e : refusal_text k a.answer ≡ [] = unfold refusal_text in rw (eq-eqb a.answer.number 0 h) in
-      let n = no_line out in
-      (record { added = a; adds = w; gives = rw (e, h, ← n.0); leaves = rw e n.1.0 }, n.1.1)
+module _ (k : ℕ) (b rec : List ℕ) (s t : Sheet) (out : List ℕ) where
+  pub entered_none : (n : ℕ) → RecordAddIs b rec s (added_in (record { outcome = Ok n; sheet = t }))
+      → EnteredIs k b rec s out (record { refused = None; sheet = t }) out
+  entered_none n w =
+      record { added = record { outcome = Ok n; sheet = t }; adds = w; gives = refl; leaves = rw (no_refusal k n) (no_line out).1.0 }
 
-  pub entered_some : (after : List ℕ) (r : ℕ) → (a.answer.number ≡ 0 → ⊥)
-      → r ≡ line_length (text_of k a.answer.number a.answer.field []) out → after ≡ line_memory (text_of k a.answer.number a.answer.field []) out
-      → EnteredIs k b rec s out (record { number = a.answer.number; line = r; sheet = a.sheet }) after
-  entered_some after r h p q =
-      let e = answer_text k a.answer [] [] (λ z. refl) ∙ sym (refused_text k a.answer [] h) in
-      record { added = a; adds = w; gives = rw (p, e); leaves = q ∙ rw e }
+  pub entered_some : (e : Refused) (after : List ℕ) (r : ℕ) → RecordAddIs b rec s (added_in (record { outcome = Err e; sheet = t }))
+      → r ≡ line_length (text_of k (Err e)) out → after ≡ line_memory (text_of k (Err e)) out
+      → EnteredIs k b rec s out (record { refused = Some (record { refusal = e.refusal; line = r }); sheet = t }) after
+  entered_some e after r w p q =
+      let g = refusal_says k e in
+      record { added = record { outcome = Err e; sheet = t }; adds = w; gives = rw (p, g); leaves = q ∙ rw g }
+
+-- Two outcomes of one addition are equal.
+
+by_number : ℕ → Refusal
+by_number n = cond (eqb n 1) Text (cond (eqb n 2) Symbol (cond (eqb n 3) Long (cond (eqb n 4) Shape (cond (eqb n 5) Digits (cond (eqb n 6) Value (cond (eqb n 7) Room (cond (eqb n 8) Size (cond (eqb n 9) Length (cond (eqb n 10) Conversion (cond (eqb n 11) Count (cond (eqb n 12) Plan (cond (eqb n 13) Input Full))))))))))))
+
+own_number : (r : Refusal) → by_number (refusal_number r) ≡ r
+unfolding by_number
+own_number Text = refl
+own_number Symbol = refl
+own_number Long = refl
+own_number Shape = refl
+own_number Digits = refl
+own_number Value = refl
+own_number Room = refl
+own_number Size = refl
+own_number Length = refl
+own_number Conversion = refl
+own_number Count = refl
+own_number Plan = refl
+own_number Input = refl
+own_number Full = refl
+
+same_lines : (k : ℕ) (out : List ℕ) (o p : Result ℕ Refused) → fields_answer o ≡ fields_answer p → refused_line k o out ≡ refused_line k p out
+same_lines k out (Ok n) (Ok m) h = refl
+same_lines k out (Ok n) (Err f) h = absurd (eqb-false (refusal_number f.refusal) 0 (refusal_eqb f.refusal) (sym (ap (λ (a : Answer). a.number) h)))
+same_lines k out (Err e) (Ok m) h = absurd (eqb-false (refusal_number e.refusal) 0 (refusal_eqb e.refusal) (ap (λ (a : Answer). a.number) h))
+same_lines k out (Err e) (Err f) h =
+    let g : e.refusal ≡ f.refusal = sym (own_number e.refusal) ∙ ap (λ (a : Answer). by_number a.number) h ∙ own_number f.refusal in
+    let l = ap (λ (a : Answer). line_length (refusal_text k a) out) h in
+    rw (l, g)
 
 pub entered_one : (k : ℕ) (b rec : List ℕ) (s : Sheet) (out : List ℕ) (r q : Entered) (x y : List ℕ)
     → EnteredIs k b rec s out r x → EnteredIs k b rec s out q y → (r ≡ q) × (x ≡ y)
 entered_one k b rec s out r q x y v w =
-    let e = record_add_one b rec s v.added w.added v.adds w.adds in
-    (v.gives ∙ rw e (sym w.gives), v.leaves ∙ rw e (sym w.leaves))
+    let e = record_add_one b rec s (added_in v.added) (added_in w.added) v.adds w.adds in
+    let a = ap (λ (t : Added). t.answer) e in
+    let t = ap (λ (t : Added). t.sheet) e in
+    let l = same_lines k out v.added.outcome w.added.outcome a in
+    (v.gives ∙ rw (l, t) (sym w.gives), v.leaves ∙ rw a (sym w.leaves))
 
--- Refused for its length or for a field that says nothing, by these pictures: the sheet has no part in such a number.
+-- Refused for its length or for a field that says nothing, by these pictures: the sheet has no part in such a
+-- number.
 module _ (φs : List Form) (rec : List ℕ) (s : Sheet) (os : List (Option ℤ)) where
   reads_same : LENGTH ≤ (record_added φs rec s os).answer.number → (record_added φs rec s os).answer.number ≤ CONVERSION
       → (record_added φs rec s os).answer ≡ record_answer φs rec (length φs) os
@@ -112,4 +160,4 @@ lister_says k b rec s a (as_layout l p w) h =
     let low : LENGTH ≤ a.answer.number = ⊎_elim (λ e. omega arith) (λ e. omega arith) h in
     let high : a.answer.number ≤ CONVERSION = ⊎_elim (λ e. omega arith) (λ e. omega arith) h in
     let e = ap (λ (x : Added). x.answer) w.gives ∙ reads_same (forms l) rec s w.says (rw w.gives at low) (rw w.gives at high) in
-    as_layout l p (w.says, w.reads, refused_text k a.answer (map signed_decimal (amounts w.says)) (λ z. omega arith) ∙ rw e)
+    as_layout l p (w.says, w.reads, refusal_only k a.answer (map signed_decimal (amounts w.says)) (λ z. omega arith) ∙ rw e)

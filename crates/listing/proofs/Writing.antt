@@ -1,5 +1,5 @@
--- Texts written one behind the other are their joining written at once, and what is written first in lent memory stands before what was
--- there. Assumes nothing.
+-- Texts written one behind the other are their joining written at once, and what is written first in lent
+-- memory stands before what was there. Assumes nothing.
 use mathlib.Core.Path.{◌≡◌, refl, sym, ◌∙◌, ap}
 use mathlib.Core.List.{List, [], ◌∷◌, ◌++◌}
 use Prim.Native.Nat.{ℕ, ◌+◌, ◌≤◌}
@@ -9,6 +9,8 @@ use native.Mathlib.Omega.{arith}
 use lib.ListN.{length, set, drop, length-append}
 use lib.Seq.{length-sets, sets-eq}
 use Rattle.rules.proofs.Lists.{sets_append}
+use Rattle.copying.specs.Copy.{copied}
+use Rattle.copying.proofs.Copies.{copied_in}
 use Rattle.listing.specs.Put.{written, Puts}
 
 pub put_none : (out : List ℕ) (at : ℕ) → Puts [] out at out at
@@ -41,3 +43,8 @@ unfolding written
 put_first {text = text} {out = out} h f =
     let e : 0 + length text ≡ length text = zero-add (length text) in
     (f.behind ∙ e, f.memory ∙ rw e at (sets-eq text out 0 (rw e h)))
+
+-- a text that is copied where it has room
+pub put_copied : (text out after : List ℕ) (at : ℕ) → at + length text ≤ length out → after ≡ copied text at out → Puts text out at after (at + length text)
+unfolding written
+put_copied text out after at h e = record { memory = e ∙ copied_in text out at h; behind = refl }

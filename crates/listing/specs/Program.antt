@@ -1,14 +1,17 @@
--- What a program that lists an input has to meet: how long its rooms are, where each line of the input begins, and what each line that it
--- prints says. Such lines, each printed once and in order, are the listing (joined in proofs/Joining.antt). Assumes nothing.
+-- What a program that lists an input has to meet: how long its rooms are, where each line of the input
+-- begins, and what each line that it prints says. Such lines, each printed once and in order, are the listing
+-- (joined in proofs/Joining.antt). Assumes nothing.
 use Rattle.std.specs.Prelude.{ℕ, zero, suc, ◌<◌, ◌≡◌, true, cond, ◌&&◌, List, [], ◌∷◌, leb, ℤ, length, get_or, drop, replicate}
 use Rattle.std.proofs.Math.Option.{Option}
 use Rattle.rules.specs.Layout.{forms}
 use Rattle.rules.specs.Answers.{RecordReads}
 use Rattle.rules.specs.Lister.{lines_from, layout_line, record_line, over_limit}
+use Rattle.listing.specs.declared.walk.Lines.{Lines}
 pub use Rattle.rules.specs.Layout.{accepted, HasPlan}
 pub use Rattle.rules.specs.Lister.{most_input}
 
--- RULES 8.6: the record that the lister keeps; no accepted layout's record is longer (record_fits in proofs/Layouts.antt)
+-- RULES 8.6: the record that the lister keeps; no accepted layout's record is longer (record_fits in
+-- proofs/Layouts.antt)
 abbrev pub most_record : ℕ
 most_record = 2048
 
@@ -18,11 +21,16 @@ cleared = replicate most_record 0
 abbrev pub lines_in : List ℕ → List (List ℕ)
 lines_in s = lines_from [] s
 
+-- the lines that a walk has still to give
+abbrev pub lines_left : Lines → List (List ℕ)
+lines_left ls = lines_in ls.rest.now
+
 -- the input's layout line, empty where the input is
 abbrev pub layout_in : List ℕ → List ℕ
 layout_in s = get_or (lines_in s) 0 []
 
--- line k of the input begins at byte `at`: the lines from there on are those behind the first k. The layout is line 0, record k is line k.
+-- line k of the input begins at byte `at`: the lines from there on are those behind the first k. The layout
+-- is line 0, record k is line k.
 abbrev pub Begins : List ℕ → ℕ → ℕ → Type 0
 Begins s k at = lines_in (drop at s) ≡ drop k (lines_in s)
 

@@ -1,10 +1,8 @@
 -- Text written into lent memory from a place on, and a line as its words and what ends it. Assumes nothing.
-use Rattle.std.specs.Prelude.{ℕ, ◌+◌, ◌-◌, ◌^◌, ◌≤◌, ◌≡◌, List, [], ◌∷◌, ◌++◌, map, length}
+use Rattle.std.specs.Prelude.{ℕ, ◌+◌, ◌≡◌, List, [], ◌∷◌, ◌++◌, length}
 use Prim.Native.Char.{code}
 use Rattle.std.proofs.lemmas.List.Edits.{sets}
-use Rattle.rules.specs.Digits.{digits_of}
 use Rattle.rules.specs.Lister.{decimal}
-use Rattle.listing.specs.declared.number.Top.{Top}
 
 -- lent memory with the text in it from a place on
 unfoldable pub written : List ℕ → ℕ → List ℕ → List ℕ
@@ -14,17 +12,6 @@ written out at text = sets out at text
 pub record Puts (text out : List ℕ) (at : ℕ) (after : List ℕ) (place : ℕ) : Type 0 where
   pub memory : after ≡ written out at text
   pub behind : place ≡ at + length text
-
--- the last d digits of a number, as characters
-unfoldable pub spelled : ℕ → ℕ → List ℕ
-spelled d n = map (λ c. code "0" + c) (digits_of d n)
-
--- these are all its digits but for leading zeros
-pub record TopIs (n : ℕ) (top : Top) : Type 0 where
-  pub some : 1 ≤ top.digits
-  pub few : top.digits ≤ 20
-  pub power : top.power ≡ 10 ^ (top.digits - 1)
-  pub all : decimal n ≡ spelled top.digits n
 
 -- words with a comma before each
 unfoldable pub behind : List (List ℕ) → List ℕ

@@ -1,12 +1,14 @@
--- What a program that totals an input has to meet: which records it adds and where it stops, and what each line that it prints says. That
--- the sheet holds the totals of the records accepted is proved in proofs/TotalPrinting.antt. Assumes nothing.
-use Rattle.std.specs.Prelude.{ℕ, suc, ◌+◌, ◌≤◌, ◌<◌, ◌≡◌, true, cond, ◌||◌, List, [], eqb, length, get_or}
+-- What a program that totals an input has to meet: which records it adds and where it stops, and what each
+-- line that it prints says. That the sheet holds the totals of the records accepted is proved in
+-- proofs/TotalPrinting.antt. Assumes nothing.
+use Rattle.std.specs.Prelude.{ℕ, suc, ◌+◌, ◌≤◌, ◌<◌, ◌≡◌, true, cond, ◌||◌, List, [], eqb, length, get_or, Option, Some, None}
+use Rattle.rules.specs.declared.Refusal.{Refusal}
 use Rattle.rules.specs.Numbers.{SIZE, FULL}
+use Rattle.rules.specs.Refusals.{refusal_number}
 use Rattle.rules.specs.Layout.{accepted, forms}
 use Rattle.rules.specs.Lister.{most_input, layout_line, over_limit}
 use Rattle.totals.specs.declared.Sheet.{Sheet}
-use Rattle.totals.specs.declared.Added.{Added}
-use Rattle.totals.specs.Totals.{empty_sheet, RecordAddedIs}
+use Rattle.totals.specs.Totals.{Added, empty_sheet, RecordAddedIs}
 use Rattle.listing.specs.Program.{lines_in, layout_in}
 use Rattle.listing.specs.TotalLines.{refusal_text, count_text, place_text}
 
@@ -22,13 +24,18 @@ refused_one number = cond (eqb number 0) 0 1
 unfoldable pub limit_of : ℕ → ℕ
 limit_of number = cond (eqb number FULL || eqb number SIZE) number 0
 
+-- the number of the limit that has been met, or 0
+abbrev pub stop_number : Option Refusal → ℕ
+stop_number None = 0
+stop_number (Some refusal) = refusal_number refusal
+
 -- record k of the input, added to this sheet
 pub record Adds (s : List ℕ) (k : ℕ) (t : Sheet) (a : Added) : Type 0 where
   pub there : k < length (lines_in s)
   pub adds : RecordAddedIs (forms (layout_in s)) (get_or (lines_in s) k []) t a
 
--- RULES 9.11: behind an accepted layout the records 1 to k, added in order, leave this sheet. So many of them are refused, and the last one, and
--- no other, has met the limit `stop`, where that is not 0.
+-- RULES 9.11: behind an accepted layout the records 1 to k, added in order, leave this sheet. So many of them
+-- are refused, and the last one, and no other, has met the limit `stop`, where that is not 0.
 pub data Adding (s : List ℕ) : ℕ → ℕ → ℕ → Sheet → Type 0 where
   begun : length s ≤ most_input → accepted (layout_in s) ≡ true → Adding s 0 0 0 empty_sheet
   further : {k n : ℕ} {t : Sheet} → Adding s k n 0 t → (a : Added) → Adds s (suc k) t a

@@ -1,21 +1,25 @@
-// The lines of a listing, each written whole into the first bytes of the lent memory: a layout's, a record's, and that of an input over
-// the limit. Every call takes every input. Where the lent memory is shorter than a line may be, nothing is written there and length 0
-// is answered. That a length lies `within` the memory follows from the rest, and is said so that a caller can lend the line on.
+// The lines of a listing, each written whole into the first bytes of the lent memory: a layout's, a record's,
+// and that of an input over the limit. Every call takes every input. Where the lent memory is shorter than a
+// line may be, nothing is written there and length 0 is answered. That a length lies `within` the memory
+// follows from the rest, and is said so that a caller can lend the line on.
 #![tactic(auto)]
 
 mod number; // number.rt: a number in decimal
+mod walk; // walk.rt: the lines of an input
 pub mod total; // total.rt: the lines of a total
 mod words; // words.rt: the words of a line
 
-ghost use Rattle.std.specs.Prelude.{◌≡◌, ◌+◌, ◌≤◌, ltb, length, drop};
+ghost use Rattle.std.specs.Prelude.{◌≡◌, ◌==◌, ◌+◌, ◌≤◌, ltb, length, drop, position, IfSome};
 ghost use Rattle.rules.specs.Answers.{compile_memory};
 ghost use Rattle.rules.specs.Lister.{most_input, over_limit};
 ghost use Rattle.listing.specs.Lines.{listed_of, layout_text, RecordLineIs, line_length, line_memory, kept_in, to_end};
 
-use rules::{MOST_INPUT, MOST_PICTURES, Picture};
+use rules::{MOST_INPUT, MOST_PICTURES, Picture, Refusal};
+pub use walk::{Lines, layout_and_records};
 use words::put_line;
 
-// The longest line: three numbers of 20 digits, their two commas, a comma and at most 21 characters a value, and the end.
+// The longest line: three numbers of 20 digits, their two commas, a comma and at most 21 characters a value,
+// and the end.
 pub const LINE: usize = 3 * 20 + 2 + 22 * MOST_PICTURES + 1;
 
 // The longest record: 2,048 characters, which the lister keeps (RULES 8.6).
@@ -27,36 +31,37 @@ pub const PLAN: usize = 1 + 3 * MOST_PICTURES + 2 + RECORD;
 // A byte more than the limit (RULES 8.2), so that an input over it is noticed.
 pub const INPUT: usize = MOST_INPUT + 1;
 
-// The plan's length, 0 where the layout is refused; and the line's.
+// The plan's length, where the layout is accepted; and the line's.
 #[derive(Clone, Copy)]
 pub struct Listed {
-    pub plan: usize,
+    pub plan: Option<usize>,
     pub line: usize,
 }
 
-// The first line of a listing. The layout is compiled into `plan`, and its counts are taken from there: the field count is the plan's
-// first byte, and what is left of the length without headers and counts is the record length.
+// The first line of a listing. The layout is compiled into `plan`, and its counts are taken from there: the
+// field count is the plan's first byte, and what is left of the length without headers and counts is the
+// record length.
 pub fn layout_line(layout: &[u8], plan: &mut [u8], out: &mut [u8]) -> Listed
     ensures answer { result ≡ listed_of layout.now plan.old out.old }
     ensures plan { plan.new ≡ compile_memory layout.now plan.old }
     ensures memory { out.new ≡ line_memory (layout_text layout.now plan.old) out.old }
-    ensures within { (result.plan ≤ length plan.new) × (result.line ≤ length out.new) }
+    ensures within { IfSome result.plan (λ n. n ≤ length plan.new) × (result.line ≤ length out.new) }
 {
-    let answer = layout::compile(layout, plan);
-    let mut counts = [0i64; 2];
-    if answer.number != 0 {
-        let line = put_line(0, answer.number, answer.field, &counts, 0, out);
-        return Listed {
-            plan: answer.length,
-            line,
-        };
+    match layout::compile(layout, plan) {
+        Ok(length) => {
+            let fields = usize::from(plan[0]);
+            let symbols = length - 3 - 3 * fields;
+            let line = put_line(0, Ok(&[fields as i64, symbols as i64]), out);
+            Listed {
+                plan: Some(length),
+                line,
+            }
+        }
+        Err(refused) => {
+            let line = put_line(0, Err(refused), out);
+            Listed { plan: None, line }
+        }
     }
-    let length = answer.length;
-    let fields = plan[0] as usize;
-    counts[0] = fields as i64;
-    counts[1] = (length - 3 - 3 * fields) as i64;
-    let line = put_line(0, answer.number, answer.field, &counts, 2, out);
-    Listed { plan: length, line }
 }
 
 // The line of record number k, read by the plan.
@@ -65,19 +70,14 @@ pub fn record_line(k: usize, plan: &[u8], record: &[u8], out: &mut [u8]) -> usiz
     ensures within { result ≤ length out.new }
 {
     let mut row = [0i64; MOST_PICTURES];
-    let answer = planread::read(plan, record, &mut row);
-    put_line(
-        k as u64,
-        answer.number,
-        answer.field,
-        &row,
-        answer.length,
-        out,
-    )
+    match planread::read(plan, record, &mut row) {
+        Ok(count) => put_line(k as u64, Ok(&row[..count]), out),
+        Err(refused) => put_line(k as u64, Err(refused), out),
+    }
 }
 
-// The line of record number k, kept in `record` while it is read. A line that is longer than `record` is not cut: it is read where it
-// stands.
+// The line of record number k, kept in `record` while it is read. A line that is longer than `record` is not
+// cut: it is read where it stands.
 pub fn kept_line(k: usize, plan: &[u8], line: &[u8], record: &mut [u8], out: &mut [u8]) -> usize
     ensures line { RecordLineIs k plan.now line.now out.old result out.new }
     ensures kept { «record».new ≡ kept_in line.now «record».old }
@@ -95,14 +95,17 @@ pub fn kept_line(k: usize, plan: &[u8], line: &[u8], record: &mut [u8], out: &mu
 pub fn line_end(input: &[u8], from: usize) -> usize
     ensures { result ≡ from + to_end (drop from input.now) }
 {
-    let mut at = from;
-    while at < input.len() {
-        if input[at] == b'\n' {
-            return at;
-        }
-        at += 1;
+    match input.get(from..) {
+        Some(rest) => from + first_end(rest).unwrap_or(rest.len()),
+        None => from,
     }
-    at
+}
+
+// A function of its own, so that what the chain gives is known where it is used.
+fn first_end(rest: &[u8]) -> Option<usize>
+    ensures { result ≡ position (λ byte. byte == 10) rest.now }
+{
+    rest.iter().position(|byte| *byte == b'\n')
 }
 
 // Whether an input of n bytes is over the limit.
@@ -118,6 +121,5 @@ pub fn over_line(out: &mut [u8]) -> usize
     ensures memory { out.new ≡ line_memory over_limit out.old }
     ensures within { result ≤ length out.new }
 {
-    let none = [0i64; 1];
-    put_line(0, 13, 0, &none, 0, out)
+    put_line(0, Err(Refusal::Input.into()), out)
 }

@@ -1,48 +1,46 @@
-// Bytes in and out, for the programs. A read or a write that fails is told in a line on standard error, the program's own words `failed` and the
-// system's reason; one that a signal interrupts counts as failed. The closing of a pipe that the lines go to is no trouble, and is not told.
+// Bytes in and out, for the programs. A read or a write that fails is told in a line on standard error, the
+// program's own words `failed` and the system's reason; one that a signal interrupts counts as failed. The
+// closing of a pipe that the lines go to is no trouble, and is not told.
 #![tactic(auto)]
 
-ghost use Rattle.std.specs.Prelude.{◌≤◌, ◌≡◌, true, length};
+mod saying; // saying.rt: what both programs say on standard error
 
+ghost use Rattle.std.specs.Prelude.{◌≤◌, ◌<◌, ◌≡◌, true, length, take, IfOk, IfSome, OnOk};
+ghost use Rattle.std.specs.Io.KnownBytes.{Appends, Consumes, IsAtEnd};
+
+pub use saying::Program;
 use std::io;
 use std::io::{ErrorKind, Read, Write};
 
-// How many bytes have been read, and whether no read failed behind them.
-#[derive(Clone, Copy)]
-pub struct Got {
-    pub count: usize,
-    pub whole: bool,
-}
-
-// Reads standard input into the first bytes of `input`, until that is full, the input ends or a read fails, which is told.
-pub fn read(rt: &HostRuntime, input: &mut [u8], failed: &[u8]) -> Got
-    ensures { (result.count ≤ length input.new) × (length input.new ≡ length input.old) }
+// Reads standard input into the first bytes of `input`, until that is full or the input ends, and answers how
+// many these are. A read that fails is told, and nothing is answered.
+pub fn read(rt: &HostRuntime, input: &mut [u8], failed: &[u8]) -> Option<usize>
+    ensures { IfSome result (λ n. n ≤ length input.new) × (length input.new ≡ length input.old) }
 {
-    let (count, result) = read_all(&mut rt.stdin(), input);
-    match result {
-        Ok(()) => Got { count, whole: true },
+    match read_all(&mut rt.stdin(), input) {
+        Ok(count) => Some(count),
         Err(error) => {
             tell(rt, failed, error);
-            Got {
-                count,
-                whole: false,
-            }
+            None
         }
     }
 }
 
-fn read_all<R: Read>(from: &mut R, input: &mut [u8]) -> (usize, io::Result<()>)
-    ensures { (result.0 ≤ length input.new) × (length input.new ≡ length input.old) }
+// std's `read_exact` refuses an input that ends early, and `read_to_end` needs a heap.
+fn read_all<R: Read>(from: &mut R, input: &mut [u8]) -> io::Result<usize>
+    ensures size { length input.new ≡ length input.old }
+    ensures count { IfOk result (λ n. n ≤ length input.new) }
+    ensures bytes { IfOk result (λ n. Consumes (R.remaining from.old) (R.remaining from.new) (take n input.new)) }
+    ensures end { IfOk result (λ n. n < length input.new → IsAtEnd (R.remaining from.new)) }
 {
-    let mut count: usize = 0;
+    let mut count = 0;
     while count < input.len() {
-        match from.read(&mut input[count..]) {
-            Ok(0) => return (count, Ok(())),
-            Ok(more) => count += more,
-            Err(error) => return (count, Err(error)),
+        match from.read(&mut input[count..])? {
+            0 => return Ok(count),
+            more => count += more,
         }
     }
-    (count, Ok(()))
+    Ok(count)
 }
 
 // Writes to standard output where all before has been written, and answers whether all of this has been too.
@@ -63,20 +61,22 @@ pub fn write(rt: &HostRuntime, whole: bool, text: &[u8], failed: &[u8]) -> bool
     }
 }
 
-// A write that takes nothing gives no reason of its own.
-fn write_all<W: Write>(to: &mut W, text: &[u8]) -> io::Result<()> {
-    let mut done: usize = 0;
-    while done < text.len() {
-        match to.write(&text[done..])? {
+// A write that takes nothing gives no reason of its own. std's `write_all` goes on behind a signal.
+fn write_all<W: Write>(to: &mut W, text: &[u8]) -> io::Result<()>
+    ensures { OnOk result (Appends (W.contents to.old) (W.contents to.new) text.now) }
+{
+    let mut rest = text;
+    while !rest.is_empty() {
+        match to.write(rest)? {
             0 => return Err(io::Error::from_raw_os_error(0)),
-            more => done += more,
+            done => rest = &rest[done..],
         }
     }
     Ok(())
 }
 
 // Says this on standard error, as far as that takes it.
-pub fn say(rt: &HostRuntime, text: &[u8]) {
+fn say(rt: &HostRuntime, text: &[u8]) {
     let _ = write_all(&mut rt.stderr(), text);
 }
 
@@ -91,7 +91,8 @@ fn tell(rt: &HostRuntime, failed: &[u8], error: io::Error) {
     say(rt, b"\n");
 }
 
-// The reason without the error's number behind it, or all that stands before the zeros.
+// The reason without the error's number behind it, or all that stands before the zeros. It goes by places,
+// since at each the bytes from there on are looked at.
 fn reason(text: &[u8]) -> &[u8] {
     for end in 0..text.len() {
         if text[end] == 0 || text[end..].starts_with(b" (os error ") {

@@ -1,36 +1,39 @@
--- The walk to a line's first comma: from wherever it stands, the line says as many refusals as from the start; and what the byte behind the
--- comma tells. Assumes nothing.
-use mathlib.Core.Path.{◌≡◌}
-use mathlib.Core.List.{List}
-use Prim.Native.Nat.{ℕ, ◌+◌, ◌≤◌, ◌<◌}
+-- The first comma, and what the byte behind it tells. Assumes nothing.
+use mathlib.Core.Path.{◌≡◌, refl, sym}
+use mathlib.Core.Bool.{false}
+use mathlib.Core.List.{List, [], ◌∷◌}
+use Prim.Native.Nat.{ℕ, suc, ◌+◌}
+use Prim.Native.Char.{code}
 use native.Mathlib.Numerals.{add-one}
-use lib.ListN.{length, get_or, drop, drop_of_length-le}
-use lib.Seq.{drop-cons}
-use borrow.Author.Tests.{ne_eqb}
-use Rattle.remarks.specs.Remarks.{not_zero, refusals}
+use native.Mathlib.Omega.{arith}
+use lib.Dec.{eqb}
+use lib.ListN.{length, drop, drop_of_length-le}
+use borrow.Author.Tests.{ltb-false}
+use Rattle.std.specs.Prelude.{◌==◌, position, nat_lt, Some, None}
+use Rattle.std.specs.List.{position_or_len}
+use Rattle.rules.proofs.Logic.{by_test}
+use Rattle.remarks.specs.Remarks.{not_zero, refuses}
 
-module _ (s : List ℕ) (at : ℕ) where
-  pub zero_there : at < length s → get_or s at 0 ≡ 48 → 0 ≡ not_zero (drop at s)
+-- by the place of the first comma
+refuses_is : (s : List ℕ) → refuses s ≡ not_zero (drop (suc (position_or_len (λ b. b == 44) s)) s)
+unfolding refuses not_zero
+refuses_is [] = refl
+refuses_is (c ∷ s) =
+    let q : 1 + position_or_len (λ b. b == 44) s ≡ suc (position_or_len (λ b. b == 44) s) = omega arith in
+    by_test (eqb c (code ",")) (λ e. rw e refl) (λ e. rw (e, q, refuses_is s) refl)
+
+module _ (s : List ℕ) where
+  pub behind : (k : ℕ) → Some k ≡ position (λ b. b == 44) s → not_zero (drop (k + 1) s) ≡ refuses s
+  behind k h =
+      let p = position_or_len (λ b. b == 44) s in
+      by_test (nat_lt p (length s))
+      (λ t. let e : k ≡ p = (let f = rw t at h in cc) in rw (add-one k, e) (sym (refuses_is s)))
+      (λ t. absurd (let f = rw t at h in cc))
+
+  pub no_comma : None ≡ position (λ b. b == 44) s → false ≡ refuses s
   unfolding not_zero
-  zero_there l h = rw (drop-cons s at 0 l, h)
-
-  pub other_there : at < length s → (get_or s at 0 ≡ 48 → ⊥) → 1 ≡ not_zero (drop at s)
-  unfolding not_zero
-  other_there l h = rw (drop-cons s at 0 l, ne_eqb (get_or s at 0) 48 h)
-
-  pub none_there : length s ≤ at → 0 ≡ not_zero (drop at s)
-  unfolding not_zero
-  none_there l = rw (drop_of_length-le s l)
-
-module _ (s : List ℕ) (at : ℕ) (e : refusals (drop at s) ≡ refusals s) where
-  pub comma_here : at < length s → get_or s at 0 ≡ 44 → not_zero (drop (at + 1) s) ≡ refusals s
-  unfolding refusals
-  comma_here l h = rw (add-one at) (rw (drop-cons s at 0 l, h) at e)
-
-  pub comma_later : at < length s → (get_or s at 0 ≡ 44 → ⊥) → refusals (drop (at + 1) s) ≡ refusals s
-  unfolding refusals
-  comma_later l h = rw (add-one at) (rw (drop-cons s at 0 l, ne_eqb (get_or s at 0) 44 h) at e)
-
-  pub comma_none : length s ≤ at → 0 ≡ refusals s
-  unfolding refusals
-  comma_none l = rw (drop_of_length-le s l) at e
+  no_comma h =
+      let p = position_or_len (λ b. b == 44) s in
+      by_test (nat_lt p (length s))
+      (λ t. absurd (let f = rw t at h in cc))
+      (λ t. rw (refuses_is s, drop_of_length-le s {i = suc p} (omega (arith, ltb-false p (length s) t))))

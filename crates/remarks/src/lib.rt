@@ -1,61 +1,48 @@
-// What is remarked beside a listing (RULES 8.8) and beside totals: how many lines of a listing say a refusal, and what stands at the ends of a line
-// that an editor or another machine has put there. Every call takes every input.
+// What is remarked beside a listing (RULES 8.8) and beside totals: whether a line of a listing says a
+// refusal, and what stands at the ends of a line that an editor or another machine has put there. Every call
+// takes every input.
 #![tactic(auto)]
 
-ghost use Rattle.std.specs.Prelude.{◌≡◌, drop};
-ghost use Rattle.remarks.specs.Remarks.{not_zero, refusals, ends_in, is_marked};
+ghost use Rattle.std.specs.Prelude.{◌≡◌, ◌==◌, position};
+ghost use Rattle.remarks.specs.Remarks.{not_zero, refuses, ends_in, is_marked};
 
-// How many refusals a line of a listing says, 0 or 1: what stands behind its first comma tells.
-pub fn refusals_in(line: &[u8]) -> usize
-    ensures { result ≡ refusals line.now }
+// Whether a line of a listing says a refusal: what stands behind its first comma tells.
+pub fn says_refusal(line: &[u8]) -> bool
+    ensures { result ≡ refuses line.now }
 {
-    let mut at: usize = 0;
-    while at < line.len() {
-        if line[at] == b',' {
-            return not_zero(line, at + 1);
-        }
-        at += 1;
+    match first_comma(line) {
+        Some(comma) => not_zero(&line[comma + 1..]),
+        None => false,
     }
-    0
 }
 
-// 0 where a 0 stands at this place, or nothing does, else 1.
-fn not_zero(line: &[u8], at: usize) -> usize
-    ensures { result ≡ not_zero (drop at line.now) }
+// Whether another character than 0 stands first.
+fn not_zero(bytes: &[u8]) -> bool
+    ensures { result ≡ not_zero bytes.now }
 {
-    if at < line.len() {
-        if line[at] != b'0' {
-            return 1;
-        }
+    match bytes {
+        [digit, ..] => *digit != b'0',
+        [] => false,
     }
-    0
 }
 
-// 1 where the line's last byte is this one, else 0.
-pub fn ends_in(line: &[u8], byte: u8) -> usize
+// A function of its own, so that what the chain gives is known where it is used.
+fn first_comma(line: &[u8]) -> Option<usize>
+    ensures { result ≡ position (λ byte. byte == 44) line.now }
+{
+    line.iter().position(|byte| *byte == b',')
+}
+
+// Whether this is the line's last byte.
+pub fn ends_in(line: &[u8], byte: u8) -> bool
     ensures { result ≡ ends_in byte line.now }
 {
-    let n = line.len();
-    if 0 < n {
-        if line[n - 1] == byte {
-            return 1;
-        }
-    }
-    0
+    line.ends_with(&[byte])
 }
 
 // Whether the line begins with a byte-order mark.
 pub fn is_marked(line: &[u8]) -> bool
     ensures { result ≡ is_marked line.now }
 {
-    if line.len() < 3 {
-        return false;
-    }
-    if line[0] != 0xef {
-        return false;
-    }
-    if line[1] != 0xbb {
-        return false;
-    }
-    line[2] == 0xbf
+    line.starts_with(b"\xef\xbb\xbf")
 }

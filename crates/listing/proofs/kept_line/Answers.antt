@@ -2,7 +2,6 @@
 -- nothing.
 use mathlib.Core.Path.{sym, ◌∙◌, ap}
 use lib.ListN.{length}
-use borrow.Author.Rules.{rules}
 use Rattle.listing.proofs.Keeping.{kept_out, kept_in_lem, kept_line}
 use Rattle.listing.proofs.kept_line.Goals as goal
 

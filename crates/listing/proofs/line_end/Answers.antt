@@ -1,20 +1,18 @@
--- `listing::line_end` meets its contract: from wherever the walk stands, the end is as far as it was from the start. Assumes nothing.
-use mathlib.Core.Path.{◌≡◌, refl}
-use Prim.Native.Nat.{◌+◌, ◌-◌}
-use lib.ListN.{length, drop}
+-- `listing::line_end` meets its contract: the first LF, where there is one. Assumes nothing.
+use Prim.Native.Nat.{◌≤◌}
+use lib.ListN.{length}
 use borrow.Author.Rules.{rules}
-use Rattle.listing.specs.Lines.{to_end}
-use Rattle.listing.proofs.Splitting.{end_here, end_later, end_last}
+use Rattle.std.proofs.lemmas.List.{take_rest}
+use Rattle.listing.proofs.Splitting.{end_first, end_past}
 use Rattle.listing.proofs.line_end.Goals as goal
 
-pub returns-then-input-at-eq10 : goal.returns-then-input-at-eq10
-returns-then-input-at-eq10 c = search (end_here, rules)
+pub returns-in-Some : goal.returns-in-Some
+returns-in-Some c =
+    let u = rw (c.first_end.ensures, end_first) at c.unwrap_or.ensures in
+    let e = c.in-Some.ensures.lookup.0.2 in
+    rw (u, e, take_rest c.args.input.now c.args.from)
 
-pub loop-at-preserved : goal.loop-at-preserved
-loop-at-preserved c = search (end_later, rules)
-
-pub returns : goal.returns
-returns c = search (end_last, rules)
-
-pub loop-at-init : goal.loop-at-init
-loop-at-init c = refl
+pub returns-in-None : goal.returns-in-None
+returns-in-None c =
+    let h : length c.args.input.now ≤ c.args.from = search rules in
+    end_past _ _ h

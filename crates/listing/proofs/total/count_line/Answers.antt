@@ -1,5 +1,4 @@
 -- `listing::total::count_line` meets its contract: a number with no values behind it. Assumes nothing.
-use borrow.Author.Rules.{rules}
 use Rattle.listing.specs.TotalLines.{count_text}
 use Rattle.listing.proofs.total.count_line.Goals as goal
 

@@ -1,5 +1,4 @@
 -- `listing::words::put_end` meets its contract: one store. Assumes nothing.
-use borrow.Author.Rules.{rules}
 use Rattle.listing.proofs.Writing.{put_none, put_cons}
 use Rattle.listing.proofs.words.put_end.Goals as goal
 
