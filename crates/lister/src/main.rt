@@ -1,30 +1,31 @@
-// The record lister (RULES 8): prints the listing of its standard input, and sums it up on standard error. What each line of the listing says is
-// proved of the library `listing`; here the input is read and taken apart, and each line printed as soon as it is written. Each function
-// that lists has gone through all lines that the listing has, and answers how many; that each is printed, once and in order, is left to
-// the comparison. Where a line can't be written, those behind it are gone through and not printed.
+// The record lister (RULES 8): prints the listing of its standard input, and sums it up on standard error.
+// What each line of the listing says is proved of the library `listing`; here the input is read and taken
+// apart, and each line printed as soon as it is written. Each function that lists has gone through all lines
+// that the listing has, and answers how many; that each is printed, once and in order, is left to the
+// comparison. Where a line can't be written, those behind it are gone through and not printed.
 #![tactic(auto)]
 
 mod saying; // saying.rt: what is said on standard error
 
-ghost use Rattle.std.specs.Prelude.{◌≡◌, true, ◌+◌, ◌≤◌, ◌<◌, length, take};
+ghost use Rattle.std.specs.Prelude.{◌≡◌, true, ◌+◌, ◌≤◌, ◌<◌, length, take, drop};
 ghost use Rattle.listing.specs.Lines.{most_line, most_plan};
-ghost use Rattle.listing.specs.Program.{most_input, most_record, cleared, HasPlan, layout_in, Begins, ListingLine, line_count};
+ghost use Rattle.listing.specs.Program.{most_input, most_record, cleared, HasPlan, lines_in, lines_left, layout_in, ListingLine, line_count};
 ghost use Rattle.remarks.specs.Remarks.{RefusedAmong};
 
-use listing::{INPUT, LINE, PLAN, RECORD};
+use listing::{INPUT, LINE, Lines, PLAN, RECORD, layout_and_records};
 
-// What has come of the records: how many there are, how many are refused, how many end in a carriage return, and whether every line of the
-// listing has been written.
+// What has come of the records: how many there are, how many are refused, whether one ends in a carriage
+// return, and whether every line of the listing has been written: all else holds either way.
 #[derive(Clone, Copy)]
 pub(crate) struct Course {
     pub records: usize,
     pub refused: usize,
-    pub returns: usize,
+    pub returns: bool,
     pub whole: bool,
 }
 
-// Prints line k of the input's listing where all before it have been written, and answers whether it has been too. Nothing is printed
-// but here.
+// Prints line k of the input's listing where all before it have been written, and answers whether it has been
+// too. Nothing is printed but here. The totals program has one of its own, since each asks for its own lines.
 fn print_line(rt: &HostRuntime, whole: bool, k: usize, input: &[u8], text: &[u8]) -> bool
     requires { ListingLine input.now k text.now }
     ensures { result ≡ true → whole ≡ true }
@@ -37,18 +38,18 @@ fn print_line(rt: &HostRuntime, whole: bool, k: usize, input: &[u8], text: &[u8]
     )
 }
 
-// The records, from byte `from` of the input on, where line 1 begins. `record` is the one record that the lister keeps; `printed` says whether
-// the layout's line was written.
+// The records, which are the lines behind the layout's. `record` is the one record that the lister keeps;
+// `printed` says whether the layout's line was written.
 fn list_records(
     rt: &HostRuntime,
     input: &[u8],
-    from: usize,
+    lines: Lines<'_>,
     plan: &[u8],
     record: &mut [u8],
     out: &mut [u8],
     printed: bool,
 ) -> Course
-    requires input { (length input.now ≤ most_input) × Begins input.now 1 from }
+    requires input { (length input.now ≤ most_input) × (lines_left lines ≡ drop 1 (lines_in input.now)) }
     requires plan { HasPlan (layout_in input.now) plan.now }
     requires rooms { (length «record».old ≡ most_record) × (most_line ≤ length out.old) }
     ensures lines { result.records + 1 ≡ line_count input.now }
@@ -56,22 +57,19 @@ fn list_records(
     ensures few { result.records ≤ most_input }
     ensures whole { result.whole ≡ true → printed ≡ true }
 {
-    let mut at = from;
-    let mut k: usize = 0;
-    let mut refused: usize = 0;
-    let mut returns: usize = 0;
+    let mut records = 0;
+    let mut refused = 0;
+    let mut returns = false;
     let mut whole = printed;
-    while at < input.len() {
-        k += 1;
-        let end = listing::line_end(input, at);
-        let n = listing::kept_line(k, plan, &input[at..end], record, out);
-        whole = print_line(rt, whole, k, input, &out[..n]);
-        refused += remarks::refusals_in(&out[..n]);
-        returns += remarks::ends_in(&input[at..end], b'\r');
-        at = end + 1;
+    for line in lines {
+        records += 1;
+        let n = listing::kept_line(records, plan, line, record, out);
+        whole = print_line(rt, whole, records, input, &out[..n]);
+        refused += usize::from(remarks::says_refusal(&out[..n]));
+        returns |= remarks::ends_in(line, b'\r');
     }
     Course {
-        records: k,
+        records,
         refused,
         returns,
         whole,
@@ -84,20 +82,20 @@ fn list(rt: &HostRuntime, input: &[u8], plan: &mut [u8], record: &mut [u8], out:
     requires rooms { (most_plan ≤ length plan.old) × (length «record».old ≡ most_record) × (most_line ≤ length out.old) }
     ensures { result ≡ line_count input.now }
 {
-    let end = listing::line_end(input, 0);
-    let listed = listing::layout_line(&input[..end], plan, out);
+    let (layout, lines) = layout_and_records(input);
+    let listed = listing::layout_line(layout, plan, out);
     let whole = print_line(rt, true, 0, input, &out[..listed.line]);
-    if listed.plan == 0 {
-        saying::layout_refused(rt, whole, &input[..end]);
+    let Some(length) = listed.plan else {
+        saying::layout_refused(rt, whole, layout);
         return 1;
-    }
-    let course = list_records(rt, input, end + 1, &plan[..listed.plan], record, out, whole);
-    let lines = course.records + 1;
+    };
+    let course = list_records(rt, input, lines, &plan[..length], record, out, whole);
     saying::sum_up(rt, input, course);
-    lines
+    course.records + 1
 }
 
-// What has been read, the first n bytes of `input`. That has a byte more than the limit, so an input over the limit is noticed.
+// What has been read, the first n bytes of `input`. That has a byte more than the limit, so an input over the
+// limit is noticed.
 fn list_read(
     rt: &HostRuntime,
     input: &[u8],
@@ -126,7 +124,7 @@ fn main(rt: HostRuntime) {
     let mut record = [0u8; RECORD];
     let mut out = [0u8; LINE];
     let got = moving::read(&rt, &mut input, b"list: reading the input failed");
-    if got.whole {
-        list_read(&rt, &input, got.count, &mut plan, &mut record, &mut out);
+    if let Some(count) = got {
+        list_read(&rt, &input, count, &mut plan, &mut record, &mut out);
     }
 }

@@ -1,45 +1,20 @@
-// What is said on standard error about a listing that has been printed whole (RULES 8.8): the sum in the last line, and before it what an
-// operator should look for. The script ./list goes by the last line, so each function asks that what it says be so.
+// What is said on standard error about a listing that has been printed whole (RULES 8.8): the sum in the last
+// line, and before it what an operator should look for. The script ./list goes by the last line, so what it
+// says must be so.
 ghost use Rattle.std.specs.Prelude.{◌≡◌, true, false, ◌+◌, ◌<◌, length};
 ghost use Rattle.listing.specs.Program.{accepted, most_input, layout_in, line_count};
 ghost use Rattle.remarks.specs.Remarks.{RefusedAmong};
 
 use super::Course;
-
-fn say(rt: &HostRuntime, text: &[u8]) {
-    moving::say(rt, text);
-}
-
-fn say_number(rt: &HostRuntime, n: usize) {
-    let _ = rt.eprint(n);
-}
+use moving::Program;
 
 // A refused layout.
 pub(crate) fn layout_refused(rt: &HostRuntime, whole: bool, layout: &[u8])
     requires { accepted layout.now ≡ false }
 {
-    if !whole {
-        return;
+    if whole {
+        Program::List.layout_refused(rt, layout);
     }
-    if remarks::is_marked(layout) {
-        say(
-            rt,
-            b"list: hint: the layout line begins with a byte-order mark; tail -c +4 FILE | ./list - lists the file without it\n",
-        );
-    }
-    if remarks::ends_in(layout, b'\r') != 0 {
-        say(
-            rt,
-            b"list: hint: the layout line ends in a carriage return; tr -d '\\r' <FILE | ./list - lists the file without them\n",
-        );
-    }
-    if remarks::ends_in(layout, b' ') != 0 {
-        say(
-            rt,
-            b"list: hint: the layout line ends in a blank; end it with the last ;\n",
-        );
-    }
-    say(rt, b"list: the layout is refused, no record is listed\n");
 }
 
 // An input over the limit.
@@ -47,10 +22,7 @@ pub(crate) fn over_limit(rt: &HostRuntime, whole: bool, input: &[u8])
     requires { most_input < length input.now }
 {
     if whole {
-        say(
-            rt,
-            b"list: the input is over 65,536 bytes, nothing is listed\n",
-        );
+        Program::List.over_limit(rt);
     }
 }
 
@@ -62,19 +34,11 @@ pub(crate) fn sum_up(rt: &HostRuntime, input: &[u8], course: Course)
     if !course.whole {
         return;
     }
-    if course.returns != 0 {
-        say(
-            rt,
-            b"list: hint: records end in a carriage return; tr -d '\\r' <FILE | ./list - lists the file without them\n",
-        );
+    if course.returns {
+        Program::List.returns_hint(rt);
     }
-    say(rt, b"list: ");
-    say_number(rt, course.records);
-    if course.records == 1 {
-        say(rt, b" record, ");
-    } else {
-        say(rt, b" records, ");
-    }
-    say_number(rt, course.refused);
-    say(rt, b" refused\n");
+    let records = course.records;
+    let noun = if records == 1 { "record" } else { "records" };
+    let refused = course.refused;
+    let _ = eprintln!(rt; "list: {records} {noun}, {refused} refused");
 }

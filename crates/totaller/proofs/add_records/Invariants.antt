@@ -1,26 +1,23 @@
--- `totaller::add_records` adds record k from where line k begins, and the next line begins behind its end; at the input's end no line is left.
--- Assumes nothing.
-use Prim.Native.Nat.{◌≤◌, ◌+◌, ◌-◌}
+-- `totaller::add_records` adds record k from line k, and the lines that are left are those behind it; at the
+-- end no line is left. Assumes nothing.
+use Prim.Native.Nat.{◌≤◌, ◌+◌}
 use mathlib.Core.Path.{◌≡◌}
 use mathlib.Core.Bool.{true}
-use lib.ListN.{length}
-use Rattle.listing.specs.Program.{lines_in, Begins}
-use Rattle.listing.specs.TotalProgram.{Adding}
+use lib.ListN.{length, drop}
+use Rattle.std.specs.Prelude.{None}
+use Rattle.listing.specs.Program.{lines_in, lines_left}
+use Rattle.listing.specs.TotalProgram.{stop_number, Adding}
 use Rattle.totaller.proofs.add_records.Given as goal
 
-abbrev pub invariant-loop-at : goal.invariant-loop-at
-invariant-loop-at l = record {
-  begins : Begins l.input (l.course.records + 1) l.at;
+abbrev pub invariant-loop-line : goal.invariant-loop-line
+invariant-loop-line l = record {
+  can : (goal.iterator-loop-line).can_next l.line-iterator;
+  finite : (goal.iterator-loop-line).is_finite l.line-iterator;
+  left : lines_left l.line-iterator ≡ drop (l.course.records + 1) (lines_in l.input);
   there : l.course.records + 1 ≤ length (lines_in l.input);
-  behind : l.course.records ≤ l.at;
-  few : l.course.records ≤ length l.input;
   refusals : l.course.refused ≤ l.course.records;
-  ends : l.course.returns ≤ l.course.records;
   room : length l.out ≡ length l.fn.out;
-  adding : Adding l.input l.course.records l.course.refused l.course.stop l.course.sheet;
-  goes_on : l.course.stop ≡ 0;
+  adding : Adding l.input l.course.records l.course.refused (stop_number l.course.stop) l.course.sheet;
+  goes_on : l.course.stop ≡ None;
   printed : l.course.whole ≡ true → l.printed ≡ true;
 }
-
-abbrev pub decreases-loop-at : goal.decreases-loop-at
-decreases-loop-at l = length l.input - l.at

@@ -1,47 +1,29 @@
--- `totaller::total` prints the layout's line and, where compiling has left a plan, has the records added and totalled by it: they begin behind the
--- layout line. Assumes nothing.
-use mathlib.Core.Path.{sym}
-use native.Mathlib.Omega.{arith}
-use lib.Seq.{length-take-le}
-use borrow.Author.Rules.{rules}
-use Rattle.listing.proofs.Splitting.{layout_at}
+-- `totaller::total` prints the layout's line and, where compiling has left a plan, has the lines behind it
+-- added and totalled by it. Assumes nothing.
 use Rattle.listing.proofs.Printing.{layout_printed, not_accepted, layout_taken}
 use Rattle.listing.proofs.TotalPrinting.{layout_of}
 use Rattle.totaller.proofs.total.Goals as goal
-
-pub slice_bounds-layout_line-end : goal.slice_bounds-layout_line-end
-slice_bounds-layout_line-end c = sym (length-take-le _ _ (layout_at _ _ c.line_end-end.ensures).inside)
 
 pub print_line-whole-requires : goal.print_line-whole-requires
 print_line-whole-requires c =
     let p = c.requires in
     let e = c.layout_line-listed.ensures in
-    let l = layout_at _ _ c.line_end-end.ensures in
-    layout_of _ _ p.input (layout_printed _ _ c.args.plan.now _ _ p.input p.rooms.0 l.is e.answer _ p.rooms.1 e.memory)
-
-pub slice_bounds-layout_refused-end : goal.slice_bounds-layout_refused-end
-slice_bounds-layout_refused-end c = sym (length-take-le _ _ (layout_at _ _ c.line_end-end.ensures).inside)
+    let t = layout_printed _ _ c.args.plan.now _ _ p.input p.rooms.0 c.layout_and_records.ensures.layout e.answer _ p.rooms.1 e.memory in
+    layout_of _ _ p.input t
 
 pub layout_refused-requires : goal.layout_refused-requires
 layout_refused-requires c =
     let p = c.requires in
-    let e = c.layout_line-listed.ensures in
-    not_accepted _ _ _ _ _ p.input p.rooms.0 (layout_at _ _ c.line_end-end.ensures).is e.answer (omega arith)
-
-pub overflow_add-end : goal.overflow_add-end
-overflow_add-end c = let h = (layout_at _ _ c.line_end-end.ensures).inside in search rules
-
-pub add_records-course-requires-clause-input : goal.add_records-course-requires-clause-input
-add_records-course-requires-clause-input c = (c.requires.input, (layout_at _ _ c.line_end-end.ensures).next)
+    not_accepted _ _ _ _ _ p.input p.rooms.0 c.layout_and_records.ensures.layout c.layout_line-listed.ensures.answer c.in_default.is
 
 pub add_records-course-requires-clause-plan : goal.add_records-course-requires-clause-plan
 add_records-course-requires-clause-plan c =
     let p = c.requires in
     let e = c.layout_line-listed.ensures in
-    layout_taken _ _ _ _ _ p.input p.rooms.0 (layout_at _ _ c.line_end-end.ensures).is e.answer _ (λ z. c.if-listed-eq0.false z) e.plan
+    layout_taken _ _ _ _ _ p.input p.rooms.0 c.layout_and_records.ensures.layout e.answer _ _ c.in-Some.is e.plan
 
 pub print_totals-all-requires-clause-plan : goal.print_totals-all-requires-clause-plan
 print_totals-all-requires-clause-plan c =
     let p = c.requires in
     let e = c.layout_line-listed.ensures in
-    layout_taken _ _ _ _ _ p.input p.rooms.0 (layout_at _ _ c.line_end-end.ensures).is e.answer _ (λ z. c.if-listed-eq0.false z) e.plan
+    layout_taken _ _ _ _ _ p.input p.rooms.0 c.layout_and_records.ensures.layout e.answer _ _ c.in-Some.is e.plan
