@@ -12,8 +12,7 @@ ghost use Rattle.planread.specs.Runs.{plan_added, plan_placed};
 use super::read_record;
 use plan::Plan;
 use rules::{MOST_PICTURES, Refusal, Refused};
-use std::ops::Range;
-use totals::{Added, Batched, MOST_BATCH, MOST_RECORDS, Sheet};
+use totals::{Added, Batched, Bounds, MOST_BATCH, MOST_RECORDS, Sheet};
 
 // RULES 9.2, with records of so many bytes.
 #[tactic(auto, unfolding(totals::specs::Batch::placed, totals::specs::Batch::whole_in))]
@@ -25,7 +24,7 @@ fn is_placed(size: usize, len: usize, place: usize) -> bool
 }
 
 // By the record length, the batch's length and the place.
-fn next_of(size: usize, len: usize, place: usize) -> Result<Option<Range<usize>>, Refusal>
+fn next_of(size: usize, len: usize, place: usize) -> Result<Option<Bounds>, Refusal>
     requires { (1 ≤ size) × (size ≤ most_batch) }
     ensures { handed result ≡ next_at size len place }
 {
@@ -35,11 +34,14 @@ fn next_of(size: usize, len: usize, place: usize) -> Result<Option<Range<usize>>
     if place == len {
         return Ok(None);
     }
-    Ok(Some(place..place + size))
+    Ok(Some(Bounds {
+        from: place,
+        to: place + size,
+    }))
 }
 
 // The walk over a batch as a run and a place: the record at this place, the end, PLAN or LENGTH.
-pub fn next(plan: &[u8], batch: &[u8], place: usize) -> Result<Option<Range<usize>>, Refusal>
+pub fn next(plan: &[u8], batch: &[u8], place: usize) -> Result<Option<Bounds>, Refusal>
     ensures { NextIs plan.now batch.now place (handed result) }
 {
     let plan = Plan::new(plan)?;
@@ -79,7 +81,7 @@ fn added_at(plan: Plan<'_>, batch: &[u8], place: usize, sheet: Sheet) -> Added
         return sheet.unchanged(Err(Refusal::Full.into()));
     }
     match next_of(plan.record_length(), batch.len(), place) {
-        Ok(Some(here)) => added(plan, &batch[here], sheet),
+        Ok(Some(here)) => added(plan, &batch[here.from..here.to], sheet),
         Ok(None) => sheet.unchanged(Ok(0)),
         Err(refusal) => sheet.unchanged(Err(refusal.into())),
     }

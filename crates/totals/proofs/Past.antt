@@ -22,9 +22,13 @@ use Rattle.rules.proofs.Firsts.{first_zero}
 use Rattle.rules.proofs.Logic.{by_test}
 use Rattle.rules.proofs.Outcomes.{of_layout, one_outcome, record_reads_one, reads_count}
 use Rattle.rules.proofs.Plans.{forms_count, forms_good}
+use Rattle.std.specs.Prelude.{Result}
+use Rattle.rules.specs.declared.Refused.{Refused}
+use Rattle.rules.proofs.Refusing.{fields_one}
+use Rattle.totals.specs.declared.Added.{Added as CodeAdded}
 use Rattle.totals.specs.declared.Sheet.{Sheet}
 use Rattle.totals.specs.Batch.{placed, record_at}
-use Rattle.totals.specs.Totals.{AddIs, Added, BatchAddedIs, RecordAddIs, RecordAddedIs, add_before, added_by, empty_sheet, field_numbers, greater, lesser, batch_added, over, record_added, sheet_by, with_row}
+use Rattle.totals.specs.Totals.{AddIs, Added, BatchAddedIs, RecordAddIs, RecordAddedIs, add_before, added_by, added_in, empty_sheet, field_numbers, greater, lesser, batch_added, over, record_added, sheet_by, with_row}
 use Rattle.totals.specs.History.{HoldsTotals, Offer, Rows, Went, alone, begun, column, further, greatest_of, is_accepted, kept, least_of, none as no_rows, passed, total}
 use Rattle.totals.proofs.Columns.{length_over, over_at, over_rest}
 use Rattle.totals.proofs.Alone.{as_batch, other_length}
@@ -47,6 +51,13 @@ batch_added_one φs batch at s r q g a b =
 
 pub add_one : (b batch : List ℕ) (at : ℕ) (s : Sheet) (r q : Added) → AddIs b batch at s r → AddIs b batch at s q → r ≡ q
 add_one b batch at s r q = one_outcome b (λ x y. x ∙ sym y) (λ φs h. batch_added_one φs batch at s r q h)
+
+-- So do they what the code hands back, which is read as such.
+
+pub added_one : (r q : CodeAdded) → added_in r ≡ added_in q → r ≡ q
+added_one r q e =
+    ap (λ (o : Result ℕ Refused). record { outcome = o; sheet = r.sheet }) (fields_one r.outcome q.outcome (ap (λ (a : Added). a.answer) e))
+    ∙ ap (λ (s : Sheet). record { outcome = q.outcome; sheet = s }) (ap (λ (a : Added). a.sheet) e)
 
 -- What one addition does to the sheet, by what stands of it in the history.
 

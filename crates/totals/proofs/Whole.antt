@@ -11,10 +11,16 @@ use lib.ListN.{length}
 use Rattle.rules.specs.Layout.{HasPlan, forms, record_length}
 use Rattle.rules.specs.Answers.{as_layout}
 use Rattle.rules.proofs.Outcomes.{of_layout, one_outcome}
+use Rattle.std.specs.Prelude.{Err, None, Ok, Option, Result, Some}
+use Rattle.rules.specs.declared.Refusal.{Refusal}
+use Rattle.rules.specs.declared.Refused.{Refused as RefusedIn}
+use Rattle.rules.proofs.Refusing.{fields_one, refusal_one}
+use Rattle.totals.specs.declared.Batched.{Batched as CodeBatched}
+use Rattle.totals.specs.declared.Bounds.{Bounds}
 use Rattle.totals.specs.declared.Sheet.{Sheet}
-use Rattle.totals.specs.Batch.{End, Next, NextIs, Record, next_at, placed}
+use Rattle.totals.specs.Batch.{End, Next, NextIs, Record, Refused, handed, next_at, next_number, placed}
 use Rattle.totals.specs.Totals.{Added}
-use Rattle.totals.specs.History.{Along, Batched, Offer, Went, further, in_turn, onward, stopped}
+use Rattle.totals.specs.History.{Along, Batched, Offer, Went, batched_in, further, in_turn, onward, stopped}
 use Rattle.totals.proofs.Places.{fit, next_end, next_is, was_record, well_placed}
 use Rattle.totals.proofs.Past.{add_one}
 
@@ -62,6 +68,46 @@ module _ (b batch : List ℕ) where
       let z = next_one at _ _ n n' in
       let t : to ≡ to' = cc in
       along_one to a.sheet r q g (rw (t, i) g')
+
+-- So are they where the code hands them back, which are read as such.
+
+abbrev case_of : Next → ℕ
+case_of (Record from to) = 0
+case_of End = 1
+case_of (Refused n) = 2
+
+abbrev first_byte : Next → ℕ
+first_byte (Record from to) = from
+first_byte End = 0
+first_byte (Refused n) = 0
+
+abbrev behind : Next → ℕ
+behind (Record from to) = to
+behind End = 0
+behind (Refused n) = 0
+
+bounds_one : (a b : Bounds) → Record a.from a.to ≡ Record b.from b.to → a ≡ b
+bounds_one a b e = ap (λ (x : ℕ). record { from = x; to = a.to }) (ap first_byte e) ∙ ap (λ (x : ℕ). record { from = b.from; to = x }) (ap behind e)
+
+other_case : {A : Type 0} {t u : Next} → t ≡ u → (case_of t ≡ case_of u → ⊥) → A
+other_case e n = absurd (n (ap case_of e))
+
+pub handed_one : (r q : Result (Option Bounds) Refusal) → handed r ≡ handed q → r ≡ q
+handed_one (Ok (Some a)) (Ok (Some b)) e = ap (λ (x : Bounds). Ok (Some x)) (bounds_one a b e)
+handed_one (Ok (Some a)) (Ok None) e = other_case e (λ c. omega arith)
+handed_one (Ok (Some a)) (Err q) e = other_case e (λ c. omega arith)
+handed_one (Ok None) (Ok (Some b)) e = other_case e (λ c. omega arith)
+handed_one (Ok None) (Ok None) e = refl
+handed_one (Ok None) (Err q) e = other_case e (λ c. omega arith)
+handed_one (Err r) (Ok (Some b)) e = other_case e (λ c. omega arith)
+handed_one (Err r) (Ok None) e = other_case e (λ c. omega arith)
+handed_one (Err r) (Err q) e = ap (λ (x : Refusal). Err x) (refusal_one r q (ap next_number e))
+
+pub batched_one : (r q : CodeBatched) → batched_in r ≡ batched_in q → r ≡ q
+batched_one r q e =
+    ap (λ (o : Result ℕ RefusedIn). record { outcome = o; place = r.place; sheet = r.sheet }) (fields_one r.outcome q.outcome (ap (λ (b : Batched). b.answer) e))
+    ∙ ap (λ (k : ℕ). record { outcome = q.outcome; place = k; sheet = r.sheet }) (ap (λ (b : Batched). b.place) e)
+    ∙ ap (λ (s : Sheet). record { outcome = q.outcome; place = q.place; sheet = s }) (ap (λ (b : Batched). b.sheet) e)
 
 -- A whole batch goes on with a history: each addition stands in it with its number, at the places of the
 -- batch in turn, up to the one that stopped.

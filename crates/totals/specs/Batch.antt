@@ -1,12 +1,12 @@
 -- RULES 9.1 to 9.3: batches, the records in them, and what the walker hands over at a place. Assumes nothing.
 use Rattle.std.specs.Prelude.{ℕ, zero, suc, ◌+◌, ◌%◌, ◌≡◌, Bool, cond, ◌&&◌, List, leb, eqb, length, take, drop, Result, Ok, Err, Option, None, Some}
 use Rattle.rules.specs.Numbers.{LENGTH, PLAN, unless}
-use Rattle.std.specs.declared.ops.Range.{Range}
 use Rattle.rules.specs.declared.Refusal.{Refusal}
 use Rattle.rules.specs.Refusals.{refusal_number}
 use Rattle.rules.specs.Form.{Form}
 use Rattle.rules.specs.Layout.{record_length}
 use Rattle.rules.specs.Answers.{ByPlan}
+use Rattle.totals.specs.declared.Bounds.{Bounds}
 
 -- RULES 9.1: so many bytes at most
 abbrev pub most_batch : ℕ
@@ -43,9 +43,9 @@ next_number End = 0
 next_number (Refused n) = n
 
 -- the same as a result of the code
-abbrev pub handed : Result (Option (Range ℕ)) Refusal → Next
+abbrev pub handed : Result (Option Bounds) Refusal → Next
 handed (Ok None) = End
-handed (Ok (Some r)) = Record r.start r.end
+handed (Ok (Some here)) = Record here.from here.to
 handed (Err r) = Refused (refusal_number r)
 
 -- RULES 9.3: with records of n bytes, in a batch of this length: the record from its first byte up to the

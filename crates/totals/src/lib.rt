@@ -8,9 +8,9 @@ mod sums; // sums.rt: which sums are too big, and the lesser and the greater of 
 ghost use Rattle.std.specs.Prelude.{◌≡◌, take};
 ghost use Rattle.rules.specs.Layout.{most_pictures};
 ghost use Rattle.totals.specs.Totals.{added_in, empty_sheet, row_added, with_row};
-ghost use Rattle.totals.specs.Steps.{RowFits};
+ghost use Rattle.totals.specs.Steps.{RowFits, unchanged_by};
 
-use rules::{MOST_PICTURES, Refusal, Refused};
+use rules::{Answer, MOST_PICTURES, Refusal, Refused};
 use sums::{first_over, greater, lesser};
 
 // The records that a sheet takes (RULES 9.4), and the bytes of a batch (9.1).
@@ -43,6 +43,20 @@ pub struct Batched {
     pub outcome: Result<usize, Refused>,
     pub place: usize,
     pub sheet: Sheet,
+}
+
+// An answer that need not be a call's, and the sheet beside it.
+#[derive(Clone, Copy)]
+pub struct Answered {
+    pub answer: Answer,
+    pub sheet: Sheet,
+}
+
+// A record of a batch, from its first byte up to the second number.
+#[derive(Clone, Copy)]
+pub struct Bounds {
+    pub from: usize,
+    pub to: usize,
 }
 
 impl Sheet {
@@ -102,6 +116,21 @@ impl Sheet {
     {
         Added {
             outcome,
+            sheet: self,
+        }
+    }
+
+    // The same beside the numbers of an answer without a length. Any number is taken, one of no refusal too.
+    pub fn unchanged_by(self, number: u8, field: u8) -> Answered
+        ensures { result ≡ unchanged_by number field self }
+    {
+        Answered {
+            answer: Answer {
+                number,
+                field,
+                length: 0,
+                value: 0,
+            },
             sheet: self,
         }
     }

@@ -8,7 +8,7 @@ ghost use Rattle.totals.specs.Batch.{NextIs, handed};
 
 use planread::batch;
 use rules::Refusal;
-use std::ops::Range;
+use totals::Bounds;
 
 // A walker is Copy: one that is asked or moved is still there.
 #[derive(Clone, Copy)]
@@ -26,7 +26,7 @@ impl<'a> Walker<'a> {
     }
 
     // The record at the walker's place, the end, PLAN or LENGTH. A record comes as its bounds in the batch.
-    pub fn next(self, plan: &[u8]) -> Result<Option<Range<usize>>, Refusal>
+    pub fn next(self, plan: &[u8]) -> Result<Option<Bounds>, Refusal>
         ensures { NextIs plan.now self.entry.batch.now self.entry.place (handed result) }
     {
         batch::next(plan, self.batch, self.place)
@@ -42,7 +42,7 @@ impl<'a> Walker<'a> {
 
 // A walker made at the place and asked: it hands over what the run and the place do, by the contract of
 // `planread::batch::next` word for word.
-pub fn next_at(plan: &[u8], batch: &[u8], place: usize) -> Result<Option<Range<usize>>, Refusal>
+pub fn next_at(plan: &[u8], batch: &[u8], place: usize) -> Result<Option<Bounds>, Refusal>
     ensures { NextIs plan.now batch.now place (handed result) }
 {
     Walker::new(batch, place).next(plan)

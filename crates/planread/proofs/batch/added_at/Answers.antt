@@ -21,12 +21,12 @@ slice_bounds-added-count c =
 
 pub slice_bounds-added-start : goal.slice_bounds-added-start
 slice_bounds-added-start c =
-    let h : Here c.record_length.result (length c.args.batch.now) c.args.place c.in-Ok-Some.here.start c.in-Ok-Some.here.end = was_record _ _ _ _ _ (sym (rw c.in-Ok-Some.field-0-is at c.in-Ok-Some.ensures)) in
+    let h : Here c.record_length.result (length c.args.batch.now) c.args.place c.in-Ok-Some.here.from c.in-Ok-Some.here.to = was_record _ _ _ _ _ (sym (rw c.in-Ok-Some.field-0-is at c.in-Ok-Some.ensures)) in
     search rules
 
 pub slice_bounds-added-end : goal.slice_bounds-added-end
 slice_bounds-added-end c =
-    let h : Here c.record_length.result (length c.args.batch.now) c.args.place c.in-Ok-Some.here.start c.in-Ok-Some.here.end = was_record _ _ _ _ _ (sym (rw c.in-Ok-Some.field-0-is at c.in-Ok-Some.ensures)) in
+    let h : Here c.record_length.result (length c.args.batch.now) c.args.place c.in-Ok-Some.here.from c.in-Ok-Some.here.to = was_record _ _ _ _ _ (sym (rw c.in-Ok-Some.field-0-is at c.in-Ok-Some.ensures)) in
     search rules
 
 pub returns-in-Ok-Some : goal.returns-in-Ok-Some
