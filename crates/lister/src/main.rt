@@ -124,7 +124,7 @@ fn main(rt: HostRuntime) {
     let mut record = [0u8; RECORD];
     let mut out = [0u8; LINE];
     let got = moving::read(&rt, &mut input, b"list: reading the input failed");
-    if let Some(count) = got {
+    if let Ok(count) = got {
         list_read(&rt, &input, count, &mut plan, &mut record, &mut out);
     }
 }

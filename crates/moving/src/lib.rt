@@ -5,39 +5,50 @@
 
 mod saying; // saying.rt: what both programs say on standard error
 
-ghost use Rattle.std.specs.Prelude.{◌≤◌, ◌<◌, ◌≡◌, true, length, take, IfOk, IfSome, OnOk};
+ghost use Rattle.std.specs.Prelude.{◌≤◌, ◌<◌, ◌≡◌, true, length, take, IfErr, IfOk, OnOk};
 ghost use Rattle.std.specs.Io.KnownBytes.{Appends, Consumes, IsAtEnd};
 
 pub use saying::Program;
 use std::io;
 use std::io::{ErrorKind, Read, Write};
 
+// A read that failed, and how many bytes had been read before.
+#[derive(Drop)]
+struct Failed {
+    count: usize,
+    error: io::Error,
+}
+
 // Reads standard input into the first bytes of `input`, until that is full or the input ends, and answers how
-// many these are. A read that fails is told, and nothing is answered.
-pub fn read(rt: &HostRuntime, input: &mut [u8], failed: &[u8]) -> Option<usize>
-    ensures { IfSome result (λ n. n ≤ length input.new) × (length input.new ≡ length input.old) }
+// many these are. A read that fails is told, and what is answered is how many bytes were read before it.
+pub fn read(rt: &HostRuntime, input: &mut [u8], failed: &[u8]) -> Result<usize, usize>
+    ensures size { length input.new ≡ length input.old }
+    ensures count { IfOk result (λ n. n ≤ length input.new) }
+    ensures before { IfErr result (λ n. n ≤ length input.new) }
 {
     match read_all(&mut rt.stdin(), input) {
-        Ok(count) => Some(count),
-        Err(error) => {
+        Ok(count) => Ok(count),
+        Err(Failed { count, error }) => {
             tell(rt, failed, error);
-            None
+            Err(count)
         }
     }
 }
 
 // std's `read_exact` refuses an input that ends early, and `read_to_end` needs a heap.
-fn read_all<R: Read>(from: &mut R, input: &mut [u8]) -> io::Result<usize>
+fn read_all<R: Read>(from: &mut R, input: &mut [u8]) -> Result<usize, Failed>
     ensures size { length input.new ≡ length input.old }
     ensures count { IfOk result (λ n. n ≤ length input.new) }
+    ensures before { IfErr result (λ failed. failed.count ≤ length input.new) }
     ensures bytes { IfOk result (λ n. Consumes (R.remaining from.old) (R.remaining from.new) (take n input.new)) }
     ensures end { IfOk result (λ n. n < length input.new → IsAtEnd (R.remaining from.new)) }
 {
     let mut count = 0;
     while count < input.len() {
-        match from.read(&mut input[count..])? {
-            0 => return Ok(count),
-            more => count += more,
+        match from.read(&mut input[count..]) {
+            Ok(0) => return Ok(count),
+            Ok(more) => count += more,
+            Err(error) => return Err(Failed { count, error }),
         }
     }
     Ok(count)
@@ -76,7 +87,7 @@ fn write_all<W: Write>(to: &mut W, text: &[u8]) -> io::Result<()>
 }
 
 // Says this on standard error, as far as that takes it.
-fn say(rt: &HostRuntime, text: &[u8]) {
+pub fn say(rt: &HostRuntime, text: &[u8]) {
     let _ = write_all(&mut rt.stderr(), text);
 }
 

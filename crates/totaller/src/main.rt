@@ -190,7 +190,7 @@ fn main(rt: HostRuntime) {
     let mut plan = [0u8; PLAN];
     let mut out = [0u8; LINE];
     let got = moving::read(&rt, &mut input, b"total: reading the input failed");
-    if let Some(count) = got {
+    if let Ok(count) = got {
         total_read(&rt, &input, count, &mut plan, &mut out);
     }
 }

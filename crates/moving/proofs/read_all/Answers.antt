@@ -7,8 +7,8 @@ use Rattle.moving.proofs.read_all.Goals as goal
 pub loop-count-preserved : goal.loop-count-preserved
 loop-count-preserved g c =
     let v = c.loop-count.invariant in
-    let e = c.in_ok-more.ensures in
-    let h : c.in_ok-more.more ≤ length c.read.new.buf = e.bound.0 in
+    let e = c.in-Ok.ensures in
+    let h : c.in-Ok.more ≤ length c.read.new.buf = e.bound.0 in
     record {
       inside = search rules;
       size = search rules;
