@@ -7,7 +7,7 @@ ghost use Rattle.rules.specs.Refusals.{length_answer, value_answer, fields_answe
 
 use rules::{Answer, Refusal, Refused};
 
-fn refused(number: u8, field: u8) -> Answer
+pub fn refused(number: u8, field: u8) -> Answer
     ensures { result ≡ record { number = number; field = field; length = 0; value = pos 0 } }
 {
     Answer {
@@ -18,7 +18,7 @@ fn refused(number: u8, field: u8) -> Answer
     }
 }
 
-fn done(length: usize, value: i64) -> Answer
+pub fn done(length: usize, value: i64) -> Answer
     ensures { result ≡ record { number = 0; field = 0; length = length; value = value } }
 {
     Answer {

@@ -109,18 +109,18 @@ module _ (b rec run : List ℕ) (row : List ℤ) (size : length row ≡ min (pla
   few : (l : List ℕ) → HasPlan l b → length (forms l) ≤ 32
   few l p = (forms_count l p.layout).1
 
-  plan_refused : PlanReadIs b rec row a after → (a.number ≡ 0 → ⊥) → (r : ℕ) → r ≡ packed a → PlanReadRunIs b rec run r run
+  pub plan_refused : PlanReadIs b rec row a after → (a.number ≡ 0 → ⊥) → (r : ℕ) → r ≡ packed a → PlanReadRunIs b rec run r run
   plan_refused (as_no_plan n p) z r e = as_no_plan n (e ∙ ap packed p.0, refl)
   plan_refused (as_layout l p h) z r e = as_layout l p (rw e (run_refused (forms l) rec run (few l p) row size a after h z))
 
-  plan_done : PlanReadIs b rec row a after → a.number ≡ 0 → (r : ℕ) → r ≡ packed a → (left : List ℕ) (c : ℕ) → c ≡ a.length → left ≡ put_row run (take c after) → PlanReadRunIs b rec run r left
+  pub plan_done : PlanReadIs b rec row a after → a.number ≡ 0 → (r : ℕ) → r ≡ packed a → (left : List ℕ) (c : ℕ) → c ≡ a.length → left ≡ put_row run (take c after) → PlanReadRunIs b rec run r left
   plan_done (as_no_plan n p) z r e left c s q = let x : ◌≡◌ {A = ℕ} 12 0 = sym (ap (λ (y : Answer). y.number) p.0) ∙ z in absurd (omega arith)
   plan_done (as_layout l p h) z r e left c s q =
       as_layout l p (rw e (run_done (forms l) rec run (few l p) row size a after h z left
       (q ∙ ap (λ (n : ℕ). put_row run (take n after)) (s ∙ length_is (forms l) rec run (few l p) row size a after h z) ∙ ap (put_row run) (values_are (forms l) rec run (few l p) row size a after h z))))
 
   -- the fields read fit the row of 32
-  done_length : PlanReadIs b rec row a after → a.number ≡ 0 → a.length ≤ length row
+  pub done_length : PlanReadIs b rec row a after → a.number ≡ 0 → a.length ≤ length row
   done_length (as_no_plan n p) z = let x : ◌≡◌ {A = ℕ} 12 0 = sym (ap (λ (y : Answer). y.number) p.0) ∙ z in absurd (omega arith)
   done_length (as_layout l p h) z =
       omega (arith, few l p, length_is (forms l) rec run (few l p) row size a after h z, room_is (forms l) rec run (few l p) row size a after h z)

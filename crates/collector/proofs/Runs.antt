@@ -98,7 +98,7 @@ module _ (t f : List ℕ) (a : Answer) (h : ReadIs t f a) where
     outcome : (n r : ℕ) (after : List ℕ) → read_run_number t f (length run) o ≡ n → r ≡ packed (answer n 0 1 (said o)) → after ≡ lent_after n (bytes_of (said o)) run → ReadRunIs t f run r after
     outcome n r after e x y = record { says = o; reads = h.reads; gives = x ∙ ap (λ (k : ℕ). packed (answer k 0 1 (said o))) (sym e); leaves = y ∙ ap (λ (k : ℕ). lent_after k (bytes_of (said o)) run) (sym e) }
 
-    refused_before : (r : ℕ) → r ≡ packed a → (a.number ≡ 0 → ⊥) → (a.number ≡ 10 → ⊥) → ReadRunIs t f run r run
+    pub refused_before : (r : ℕ) → r ≡ packed a → (a.number ≡ 0 → ⊥) → (a.number ≡ 10 → ⊥) → ReadRunIs t f run r run
     unfolding read_run_number
     refused_before r e z c =
         let q = before z c in
@@ -113,7 +113,7 @@ module _ (t f : List ℕ) (a : Answer) (h : ReadIs t f a) where
           let x : a.number ≡ first_of Early = number_is ∙ first_stop Early _ n in
           ⊎_elim (λ (y : a.number ≡ 10). let z : ⊥ = omega (arith, early_le) in absurd z) (λ (y : a.number ≡ 0). absurd (n (sym x ∙ y))) s)
 
-      no_room : length run < 8 → ReadRunIs t f run (packed (value_answer (Err Room))) run
+      pub no_room : length run < 8 → ReadRunIs t f run (packed (value_answer (Err Room))) run
       unfolding first_of
       no_room l =
           let x : read_run_number t f (length run) o ≡ ROOM = run_own (length run) nothing_before ∙ rw (lt-ltb (length run) 8 l) in
@@ -124,14 +124,14 @@ module _ (t f : List ℕ) (a : Answer) (h : ReadIs t f a) where
         unfolding first_of
         room_number = run_own (length run) nothing_before ∙ rw (le-ltb (length run) 8 l) (first_single (unread o) ∙ sym (own nothing_before))
 
-        says_nothing : (r : ℕ) → r ≡ packed a → (a.number ≡ 0 → ⊥) → ReadRunIs t f run r run
+        pub says_nothing : (r : ℕ) → r ≡ packed a → (a.number ≡ 0 → ⊥) → ReadRunIs t f run r run
         says_nothing r e z = outcome a.number r run room_number (e ∙ ap packed answer_is) (sym (lent_kept a.number (bytes_of (said o)) run z))
 
         put_first : (m : ℤ) → put_at run 0 m ≡ bytes_of m ++ drop 8 run
         unfolding put_at
         put_first m = rw (le-leb 8 (length run) l)
 
-        says_value : (r : ℕ) (after : List ℕ) → r ≡ packed a → a.number ≡ 0 → after ≡ put_at run 0 a.value → ReadRunIs t f run r after
+        pub says_value : (r : ℕ) (after : List ℕ) → r ≡ packed a → a.number ≡ 0 → after ≡ put_at run 0 a.value → ReadRunIs t f run r after
         says_value r after e z q =
             let v : a.value ≡ said o = ap (λ (x : Answer). x.value) (answer_is ∙ ap (λ (n : ℕ). answer n 0 1 (said o)) z) in
             outcome 0 r after (room_number ∙ z) (e ∙ ap packed (answer_is ∙ ap (λ (n : ℕ). answer n 0 1 (said o)) z))

@@ -113,7 +113,7 @@ module _ (φs : List Form) (some : 1 ≤ length φs) (few : length φs ≤ most_
 
 -- By a plan.
 module _ (b batch : List ℕ) (at : ℕ) (run : List ℕ) where
-  no_room : is_plan b ≡ true → length run < sheet_size → TotalsAddRunIs b batch at run 7 run
+  pub no_room : is_plan b ≡ true → length run < sheet_size → TotalsAddRunIs b batch at run 7 run
   unfolding packed
   no_room h l =
       by_plan_lem b (not_plan_run run 7 run) (λ φs. PlaceRunIs φs batch at run 7 run) (λ n. absurd (true≢false (sym h ∙ n)))
@@ -125,7 +125,7 @@ module _ (b batch : List ℕ) (at : ℕ) (run : List ℕ) where
         leaves = rw (lt-ltb (length run) sheet_size l);
       })
 
-  not_plan_lem : is_plan b ≡ false → TotalsAddRunIs b batch at run 12 run
+  pub not_plan_lem : is_plan b ≡ false → TotalsAddRunIs b batch at run 12 run
   unfolding packed
   not_plan_lem n = by_plan_lem b (not_plan_run run 12 run) (λ φs. PlaceRunIs φs batch at run 12 run) (λ _. (refl, refl)) (λ h. absurd (true≢false (sym h ∙ n)))
 

@@ -40,11 +40,11 @@ module _ (φ : Form) (f : List ℕ) where
   reads_plus p = rw p
 
   -- and where nothing is read
-  reads_long : (length f ≡ size φ → ⊥) → None ≡ read_in φ f
+  pub reads_long : (length f ≡ size φ → ⊥) → None ≡ read_in φ f
   unfolding read_in
   reads_long n = rw (ne_eqb (length f) (size φ) n, and-false (leb (digit_count φ) most_digits))
 
-  reads_many : most_digits < digit_count φ → None ≡ read_in φ f
+  pub reads_many : most_digits < digit_count φ → None ≡ read_in φ f
   unfolding read_in
   reads_many n = rw (lt-leb (digit_count φ) most_digits n)
 

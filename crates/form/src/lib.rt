@@ -170,9 +170,9 @@ fn role_of(kind: u8, met: bool, number: u8) -> u8
 // A form whose positions are placed one after the other, and whether a symbol of its kind has gone before;
 // under Z and * that holds from the start.
 #[derive(Clone, Copy)]
-struct Placed {
-    form: Meaning,
-    met: bool,
+pub struct Placed {
+    pub form: Meaning,
+    pub met: bool,
 }
 
 impl Placed {

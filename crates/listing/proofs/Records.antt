@@ -50,7 +50,7 @@ module _ (φs : List Form) (rec : List ℕ) (row : List ℤ) (few : length φs �
       (let b = read_before φs rec (length row) in
       spoken k (number_over b (map unread os) 0) (cond (eqb b 0) (bad_field (map unread os)) 0) (map said os) row)
 
-record_text : (b rec : List ℕ) (k : ℕ) (row : List ℤ) (r : Answer) (after : List ℤ) → length row ≡ 32 → PlanReadIs b rec row r after
+pub record_text : (b rec : List ℕ) (k : ℕ) (row : List ℤ) (r : Answer) (after : List ℤ) → length row ≡ 32 → PlanReadIs b rec row r after
     → RecordText b k rec (answer_line k r (map signed_decimal (take r.length after)))
 unfolding answer_line
 record_text b rec k row r after h (as_no_plan n w) = as_no_plan n (rw w.0)

@@ -50,11 +50,11 @@ refused_number k out (Err e) x h =
     let q : record { refusal = e.refusal; line = line_length (refusal_text k (fields_answer (Err e))) out } ≡ x = cc in
     (ap (λ (y : RefusedLine). refusal_number y.refusal) q, sym (ap (λ (y : RefusedLine). y.line) q))
 
-taken_one : (n number : ℕ) → number ≡ 0 → (n ≡ n + refused_one number) × (0 ≡ limit_of number)
+pub taken_one : (n number : ℕ) → number ≡ 0 → (n ≡ n + refused_one number) × (0 ≡ limit_of number)
 unfolding refused_one limit_of
 taken_one n number h = rw h (omega arith, refl)
 
-refused_one_lem : (n number : ℕ) → (number ≡ 0 → ⊥) → n + 1 ≡ n + refused_one number
+pub refused_one_lem : (n number : ℕ) → (number ≡ 0 → ⊥) → n + 1 ≡ n + refused_one number
 unfolding refused_one
 refused_one_lem n number h = rw (ne_eqb number 0 h)
 

@@ -33,6 +33,10 @@ both_off : (a b c : Bool) → (a && b) ≡ false → (a && (b && c)) ≡ false
 both_off true b c e = rw e
 both_off false b c e = refl
 
+pub room_held : (s : List ℕ) → held_in (room_of s) ≡ s
+unfolding held_in room_of
+room_held s = take-append_seam s _
+
 pub held_length : (picture : Picture) → length picture.symbols ≡ 64 → length (held_in picture) ≤ 64
 unfolding held_in
 held_length picture e = simp length-take (omega arith)
@@ -96,9 +100,8 @@ module _ (t : List ℕ) where
     picture_is : picture ≡ room_of (symbols_of t)
     picture_is = expanded_symbols t picture (sym e)
 
-    held_is : held_in picture ≡ symbols_of t
-    unfolding held_in room_of
-    held_is = rw picture_is (take-append_seam (symbols_of t) _)
+    pub held_is : held_in picture ≡ symbols_of t
+    held_is = rw picture_is (room_held (symbols_of t))
 
     pub spells : spelled (held_in picture) ≡ true
     spells =
@@ -116,5 +119,5 @@ module _ (t : List ℕ) where
 
 -- what the symbols of an accepted text mean
 pub form_is : (t : List ℕ) (picture : Picture) → 0 ≡ verdict t → picture ≡ picture_of t → form_of (held_in picture) ≡ meaning t
-unfolding meaning picture_of held_in room_of
-form_is t picture z e = rw (e, eq-eqb (verdict t) 0 (sym z), take-append_seam (symbols_of t))
+unfolding meaning picture_of
+form_is t picture z e = rw (e, eq-eqb (verdict t) 0 (sym z), room_held (symbols_of t))

@@ -23,7 +23,7 @@ use Rattle.field.specs.Results.{field_by}
 use Rattle.planedit.specs.Rows.{Ready}
 use Rattle.planedit.proofs.Values.{edited_size, put_is}
 
-record_length_lem : (φs : List Form) (row : List ℤ) → length row ≡ length φs → length (record_of φs row) ≡ record_length φs
+pub record_length_lem : (φs : List Form) (row : List ℤ) → length row ≡ length φs → length (record_of φs row) ≡ record_length φs
 unfolding record_in record_length
 record_length_lem [] row e = refl
 record_length_lem (φ ∷ φs) [] e = absurd (omega arith)

@@ -68,6 +68,13 @@ ran_values i vs (some m ∷ os) l h =
 ran_all : (vs : List ℤ) (os : List (Option ℤ)) → length os ≤ length vs → (ran_from 0 vs os).outcome ≡ Ok tt → take (length os) (ran_from 0 vs os).values ≡ amounts os
 ran_all vs os l h = rw zero-add at (ran_values 0 vs os (omega arith) h)
 
+-- the row keeps its places
+pub ran_length : (i : ℕ) (vs : List ℤ) (os : List (Option ℤ)) → length (ran_from i vs os).values ≡ length vs
+unfolding ran_from
+ran_length i vs [] = refl
+ran_length i vs (none ∷ os) = refl
+ran_length i vs (some m ∷ os) = ran_length (i + 1) (set vs i m) os ∙ length-set vs i m
+
 pub length_all : (φs : List Form) (rec : List ℕ) → length (read_all φs rec) ≡ length φs
 unfolding read_all
 length_all [] rec = refl

@@ -5,14 +5,16 @@ use mathlib.Core.List.{List, ◌++◌}
 use Prim.Native.Nat.{ℕ, ◌+◌, ◌-◌, ◌≤◌, ◌<◌}
 use native.Mathlib.Omega.{arith}
 use lib.IntN.{ℤ, pos}
-use lib.ListN.{length, take, drop, length-drop}
+use lib.ListN.{length, take, drop, length-append, length-drop}
 use lib.Seq.{take_at, drop-drop, length-take-le}
-use borrow.Author.Tests.{le-leb, lt-leb}
+use borrow.Author.Tests.{le-leb, leb-false, leb-true, lt-leb}
+use lib.Dec.{leb}
 use mir.Syntax.{w64}
 use mir.Val.{SFits, of_z, to_z}
 use borrow.Rule.Slice.PartMut.{put_mid}
 use Rattle.std.specs.Array.{IsWholeChunk}
 use Rattle.std.specs.Int.{from_le_bytes, to_le_bytes}
+use Rattle.rules.proofs.Logic.{by_test}
 use Rattle.rules.specs.Collector.{bits_of, le_bytes, bytes_of, int_in}
 use Rattle.wire.specs.Run.{put_at, get_at}
 use Rattle.wire.proofs.Complement.{bits_lt, int_bits, int_is}
@@ -49,6 +51,13 @@ module _ (d : List ℕ) (at : ℕ) where
       let same = rw n at w.same in
       let long : length part ≡ 8 = ap length same ∙ length-take-le 8 (drop at d) (rw length-drop (omega arith)) in
       rw (from_bytes part long, same) (int_is _ ∙ sym (get_in h))
+
+  -- the run keeps its length
+  pub put_length : (m : ℤ) → length (put_at d at m) ≡ length d
+  put_length m =
+      by_test (leb (at + 8) (length d))
+      (λ e. let h : at + 8 ≤ length d = leb-true _ _ e in rw (put_in m h, length-append, length-append, eight_bytes m, length-take-le at d (omega arith), length-drop) (omega arith))
+      (λ e. ap length (put_out m (leb-false _ _ e)))
 
 -- the number of its own bytes, with anything after them
 pub int_bytes : (m : ℤ) (rest : List ℕ) → SFits w64 m → int_in (bytes_of m ++ rest) ≡ m
