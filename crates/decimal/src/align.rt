@@ -7,7 +7,7 @@ ghost use Rattle.decimal.specs.Align.{aligned_of};
 use rules::{Picture, Rounding};
 
 // By a power of ten. Twice what is left of the division stays below twice the largest power.
-#[tactic(auto, unfolding(rules::specs::Edit::quotient, rules::specs::Edit::rounds_up))]
+#[tactic(auto, using(rules::proofs::Quotient::half_up, rules::proofs::Quotient::less_off, rules::proofs::Quotient::cut_off))]
 fn divided(rounding: Rounding, magnitude: u64, power: u64) -> u64
     requires magnitude_bound { magnitude < 10 ^ most_digits }
     requires power_nonzero { 0 < power }

@@ -10,7 +10,7 @@ use native.Mathlib.Nat.{add-zero, min-eq_left, min-eq_right}
 use native.Mathlib.Omega.{arith}
 use lib.Dec.{eqb, ltb, leb}
 use lib.ListN.{length, get_or, take, drop, length-drop, drop_of_length-le}
-use lib.Seq.{drop-drop, take_all, get_or-drop}
+use lib.Seq.{drop-cons, drop-drop, take_all, get_or-drop}
 use borrow.Author.Tests.{ltb-true, ltb-false, leb-true, leb-false}
 use Rattle.std.specs.Prelude.{◌==◌, position, nat_lt, Option, Some, None}
 use Rattle.std.specs.List.{position_or_len}
@@ -140,7 +140,7 @@ pub none_left : (s : List ℕ) (k at : ℕ) → Begins s k at → length s ≤ a
 unfolding lines_from
 none_left s k at b h l = omega (arith, length-drop k (lines_in s), ap length (rw (drop_of_length-le s h) at b))
 
--- A walk's next line, and what it has still to give.
+-- A walk's next line, and what it has still to give: line 0 of what is left, which begins at its first byte.
 pub walk_inside : (s : List ℕ) (end : ℕ) → end ≡ 0 + to_end (drop 0 s) → end ≤ length s
 walk_inside s end e = (line_inside s 0 end (omega arith) e).1
 
@@ -148,7 +148,8 @@ pub walk_next : (s : List ℕ) (end : ℕ) → 1 ≤ length s → end ≡ 0 + to
     → lines_in s ≡ take end s ∷ lines_in (drop (min (length s) (end + 1)) s)
 walk_next s end l e =
     let n : end - 0 ≡ end = omega arith in
-    let w = rw n at (line_next s 0 end e l) in
+    let at = line_at s 0 0 end refl (omega arith) e in
+    let w : lines_in s ≡ take end s ∷ lines_in (drop (end + 1) s) = drop-cons (lines_in s) 0 [] at.there ∙ rw (at.is, at.next, n) refl in
     by_test (leb (end + 1) (length s))
     (λ t. rw (min-eq_right (leb-true (end + 1) (length s) t)) w)
     (λ t.
@@ -157,10 +158,12 @@ walk_next s end l e =
     let d : drop (length s) s ≡ drop (end + 1) s = drop_of_length-le s {i = length s} (omega arith) ∙ sym (drop_of_length-le s {i = end + 1} q) in
     rw (min-eq_left q, d) w)
 
+no_line : (ls : List (List ℕ)) → 0 ≡ length ls → ls ≡ []
+no_line [] e = refl
+no_line (l ∷ ls) e = absurd (omega arith)
+
 pub walk_last : (s : List ℕ) → length s ≤ 0 → lines_in s ≡ []
-unfolding lines_from
-walk_last [] l = refl
-walk_last (b ∷ s) l = absurd (omega arith)
+walk_last s l = no_line (lines_in s) (none_left s 0 0 refl l (omega arith))
 
 -- The walk's first line is the layout's, and an input without one has no other.
 pub layout_first : (s : List ℕ) (r : Option (Bor (List ℕ))) (d x : Bor (List ℕ)) (left : List (List ℕ)) → x ≡ unwrap_or r d → d.now ≡ []
@@ -168,6 +171,10 @@ pub layout_first : (s : List ℕ) (r : Option (Bor (List ℕ))) (d x : Bor (List
     → (x.now ≡ layout_in s) × (left ≡ drop 1 (lines_in s))
 layout_first s None d x left e z m = (ap (λ (y : Bor (List ℕ)). y.now) e ∙ z ∙ rw m.0, m.1 ∙ rw m.0)
 layout_first s (Some y) d x left e z m = (ap (λ (v : Bor (List ℕ)). v.now) e ∙ rw m, rw m)
+
+-- The layout line ends at the first end.
+pub layout_ends : (s x : List ℕ) → x ≡ layout_in s → x ≡ take (to_end s) s
+layout_ends s x e = e ∙ sym (layout_at s (to_end s) (omega arith)).is
 
 -- The next of the lines that are left is line k, and line k + 1 is the first of the others.
 pub record NextLine (ls : List (List ℕ)) (k : ℕ) (line : List ℕ) (left : List (List ℕ)) : Type 0 where

@@ -1,6 +1,7 @@
 // The lines of an input, one after the other (RULES 8.1).
-ghost use Rattle.std.specs.Prelude.{◌≡◌, drop};
+ghost use Rattle.std.specs.Prelude.{◌≡◌, drop, take};
 ghost use Rattle.std.specs.Iterator.{YieldsFirstRef, item_count};
+ghost use Rattle.listing.specs.Lines.{to_end};
 ghost use Rattle.listing.specs.Program.{lines_in, lines_left, layout_in};
 
 use super::line_end;
@@ -32,6 +33,7 @@ impl<'a> Iterator for Lines<'a> {
 // The input's layout line, which is empty where the input is, and the lines behind it: the records.
 pub fn layout_and_records(input: &[u8]) -> (&[u8], Lines<'_>)
     ensures layout { result.0.now ≡ layout_in input.now }
+    ensures end { result.0.now ≡ take (to_end input.now) input.now }
     ensures records { lines_left result.1 ≡ drop 1 (lines_in input.now) }
 {
     let mut lines = Lines { rest: input };
