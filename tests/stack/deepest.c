@@ -143,14 +143,14 @@ static uint64_t known(const uint8_t *a, size_t b)
 #endif
 
 static const struct call calls[CALLS] = {
-    [CHECK] = {"morvenka_check", BY_TEXT, {.by_text = morvenka_check}, BOUND(1672, 1744), 0},
-    [EDIT] = {"morvenka_edit", BY_VALUE, {.by_value = morvenka_edit}, BOUND(1672, 1712), BOUND(832, 784)},
-    [EDIT_CUT] = {"morvenka_edit_cut", BY_VALUE, {.by_value = morvenka_edit_cut}, BOUND(1672, 1712), BOUND(832, 784)},
-    [READ] = {"morvenka_read", BY_THREE, {.by_three = morvenka_read}, BOUND(1752, 1792), 0},
-    [COMPILE] = {"morvenka_compile", BY_TWO, {.by_two = morvenka_compile}, BOUND(1832, 1984), 0},
-    [PLAN_READ] = {"morvenka_plan_read", BY_THREE, {.by_three = morvenka_plan_read}, BOUND(1160, 1088), 0},
-    [PLAN_EDIT] = {"morvenka_plan_edit", BY_THREE, {.by_three = morvenka_plan_edit}, BOUND(1096, 992), BOUND(656, 608)},
-    [TOTALS_ADD] = {"morvenka_totals_add", BY_PLACE, {.by_place = morvenka_totals_add}, BOUND(2712, 2608), 0},
+    [CHECK] = {"morvenka_check", BY_TEXT, {.by_text = morvenka_check}, BOUND(1224, 1280), 0},
+    [EDIT] = {"morvenka_edit", BY_VALUE, {.by_value = morvenka_edit}, BOUND(1208, 1232), BOUND(768, 752)},
+    [EDIT_CUT] = {"morvenka_edit_cut", BY_VALUE, {.by_value = morvenka_edit_cut}, BOUND(1208, 1232), BOUND(768, 752)},
+    [READ] = {"morvenka_read", BY_THREE, {.by_three = morvenka_read}, BOUND(1400, 1440), 0},
+    [COMPILE] = {"morvenka_compile", BY_TWO, {.by_two = morvenka_compile}, BOUND(1512, 1552), 0},
+    [PLAN_READ] = {"morvenka_plan_read", BY_THREE, {.by_three = morvenka_plan_read}, BOUND(944, 848), 0},
+    [PLAN_EDIT] = {"morvenka_plan_edit", BY_THREE, {.by_three = morvenka_plan_edit}, BOUND(1072, 976), BOUND(608, 576)},
+    [TOTALS_ADD] = {"morvenka_totals_add", BY_PLACE, {.by_place = morvenka_totals_add}, BOUND(2544, 2432), 0},
     [KNOWN] = {"a call that is known", BY_TEXT, {.by_text = known}, KNOWN_ROOM + KNOWN_BESIDE, 0},
 };
 
